@@ -1,0 +1,100 @@
+-- Answer 8: where it is not due the plan names each table of the file exactly once, so what is summed over the plan's tables
+-- is summed over the file's.
+use mathlib.Core.Path.{_≡_, refl, ap, ap₂, _∙_, fun-ext}
+use mathlib.Core.Bool.{Bool, true, false, _&&_, _||_, not}
+use mathlib.Core.List.{List, [], _∷_, _++_}
+use mathlib.Core.Option.{none, some}
+use Prim.Native.Nat.{ℕ, zero, suc, _+_, _≤_, _<_, zero-le}
+use native.Mathlib.Omega.{arith}
+use lib.ListN.{length}
+use lib.Dec.{eqb, ltb}
+use borrow.Author.Tests.{eqb-true, eqb-false, ne-eqb, ltb-true}
+use Rattle.semantics.specs.Lists.{oneIf, Each, any, sum, filter, from}
+use Rattle.semantics.specs.Plans.{Plan, scan, join, encode, tables, Small, misplaced, planOf, misnamed}
+use Rattle.semantics.proofs.Cases.{cases, and-left, and-right, not-or}
+use Rattle.semantics.proofs.Lists.{filter-append, filter-true, length-filter-sum, sum-one, length-zero}
+use Rattle.semantics.proofs.Numbers.{length-from, sum-from-one}
+use Rattle.semantics.proofs.Spelling.{spelled-out}
+
+-- what is not yet named of the numbers from i
+abbrev unnamed : List ℕ → ℕ → Bool
+unnamed named y = not (any (eqb y) named)
+
+-- x is taken out of those that pass
+take-below : (f : ℕ → ℕ) (q : ℕ → Bool) (x i n : ℕ) → x < i → sum f (filter q (from i n)) ≡ sum f (filter (λ y. not (eqb y x) && q y) (from i n))
+take-below f q x i zero h = refl
+take-below f q x i (suc n) h =
+    rw (ne-eqb i x (λ e. omega arith)) (cases (q i) (λ g. rw (g, take-below f q x (suc i) n (omega arith))) (λ g. rw (g, take-below f q x (suc i) n (omega arith))))
+
+take-out : (f : ℕ → ℕ) (q : ℕ → Bool) (x i n : ℕ) → i ≤ x → x < i + n → q x ≡ true → sum f (filter q (from i n)) ≡ f x + sum f (filter (λ y. not (eqb y x) && q y) (from i n))
+take-out f q x i zero a b t = absurd (omega arith)
+take-out f q x i (suc n) a b t =
+    cases (eqb i x)
+    (λ e. rw (e, eqb-true i x e, t) (ap (λ k. f x + k) (take-below f q x (suc x) n (omega arith))))
+    (λ e. let d : (i ≡ x → ⊥) = eqb-false i x e in
+    cases (q i)
+    (λ g. rw (e, g) (omega (arith, take-out f q x (suc i) n (omega arith) (omega arith) t)))
+    (λ g. rw (e, g) (take-out f q x (suc i) n (omega arith) (omega arith) t)))
+
+-- every name is below n and new, and at the end all n are named
+abbrev Naming : ℕ → List ℕ → List ℕ → Type 0
+Naming n named [] = length named ≡ n
+Naming n named (t ∷ ts) = (t < n) × (unnamed named t ≡ true) × Naming n (t ∷ named) ts
+
+-- all that is named in the end
+abbrev final : List ℕ → List ℕ → List ℕ
+final named [] = named
+final named (t ∷ ts) = final (t ∷ named) ts
+
+final-sum : (f : ℕ → ℕ) (named ts : List ℕ) → sum f (final named ts) ≡ sum f ts + sum f named
+final-sum f named [] = omega arith
+final-sum f named (t ∷ ts) = omega (arith, final-sum f (t ∷ named) ts)
+
+final-length : (n : ℕ) (named ts : List ℕ) → Naming n named ts → length (final named ts) ≡ n
+final-length n named [] m = m
+final-length n named (t ∷ ts) m = final-length n (t ∷ named) ts (m .2)
+
+-- named and not named together are all
+final-all : (f : ℕ → ℕ) (n : ℕ) (named ts : List ℕ) → Naming n named ts → sum f named + sum f (filter (unnamed named) (from 0 n)) ≡ sum f (from 0 n)
+    → sum f (final named ts) + sum f (filter (unnamed (final named ts)) (from 0 n)) ≡ sum f (from 0 n)
+final-all f n named [] m e = e
+final-all f n named (t ∷ ts) m e =
+    final-all f n (t ∷ named) ts (m .2)
+    (rw (fun-ext (λ y. not-or (eqb y t) (any (eqb y) named))) (omega (arith, e, take-out f (unnamed named) t 0 n zero-le (omega (arith, m .0)) (m .1))))
+
+pub naming-sum : (f : ℕ → ℕ) (n : ℕ) (ts : List ℕ) → Naming n [] ts → sum f ts ≡ sum f (from 0 n)
+naming-sum f n ts m =
+    let all : (g : ℕ → ℕ) → sum g (final [] ts) + sum g (filter (unnamed (final [] ts)) (from 0 n)) ≡ sum g (from 0 n) = λ g. final-all g n [] ts m (rw (filter-true (from 0 n)) (omega arith)) in
+    let rest : length (filter (unnamed (final [] ts)) (from 0 n)) ≡ 0
+    = omega (arith, all (λ x. 1), sum-one (final [] ts), sum-one (filter (unnamed (final [] ts)) (from 0 n)), sum-one (from 0 n), length-from 0 n, final-length n [] ts m) in
+    omega (arith, final-sum f [] ts, all f, ap (sum f) (length-zero (filter (unnamed (final [] ts)) (from 0 n)) rest))
+
+misnamed-naming : (n : ℕ) (named : List ℕ) (i : ℕ) (bs : List ℕ) → misnamed n named i bs ≡ none → Naming n named (filter (λ b. not (eqb b 255)) bs)
+misnamed-naming n named i [] e = cases (eqb (length named) n) (λ h. eqb-true (length named) n h) (λ h. let z : _≡_ {A = ℕ} 0 1 = cc (rw (h, misnamed) at e) in omega arith)
+misnamed-naming n named i (b ∷ bs) e =
+    cases (eqb b 255) (λ h. rw h (misnamed-naming n named (suc i) bs (rw (h, misnamed) at e)))
+    (λ h. cases (ltb b n && not (any (eqb b) named))
+    (λ g. rw h (ltb-true b n (and-left (ltb b n) (unnamed named b) g), and-right (ltb b n) (unnamed named b) g, misnamed-naming n (b ∷ named) (suc i) bs (rw (h, g, misnamed) at e)))
+    (λ g. let z : _≡_ {A = ℕ} 0 1 = cc (rw (h, g, misnamed) at e) in absurd (omega arith)))
+
+names-encode : (p : Plan) → Small p → filter (λ b. not (eqb b 255)) (encode p) ≡ tables p
+names-encode (scan t) h = rw (ne-eqb t 255 (λ e. omega arith))
+names-encode (join l r) h = filter-append (λ b. not (eqb b 255)) (encode l) (encode r) ∙ ap₂ (λ a b. a ++ b) (names-encode l (h .0)) (names-encode r (h .1))
+
+plan-naming : (n : ℕ) (bs : List ℕ) → misplaced 1 0 bs ≡ none → misnamed n [] 0 bs ≡ none → Naming n [] (tables (planOf bs))
+plan-naming n bs a b = let (s, e) = spelled-out bs a in rw (← names-encode (planOf bs) s, e) (misnamed-naming n [] 0 bs b)
+
+-- where answers 7 and 8 are not due, what is summed over the plan's tables is summed over the file's
+pub plan-sum : (f : ℕ → ℕ) (n : ℕ) (bs : List ℕ) → misplaced 1 0 bs ≡ none → misnamed n [] 0 bs ≡ none → sum f (tables (planOf bs)) ≡ sum f (from 0 n)
+plan-sum f n bs a b = naming-sum f n (tables (planOf bs)) (plan-naming n bs a b)
+
+naming-below : (n : ℕ) (named ts : List ℕ) → Naming n named ts → Each (λ t. t < n) ts
+naming-below n named [] m = tt
+naming-below n named (t ∷ ts) m = (m .0, naming-below n (t ∷ named) ts (m .2))
+
+-- "each table of the file is named exactly once", and no other is
+pub named-below : (n : ℕ) (bs : List ℕ) → misplaced 1 0 bs ≡ none → misnamed n [] 0 bs ≡ none → Each (λ t. t < n) (tables (planOf bs))
+named-below n bs a b = naming-below n [] (tables (planOf bs)) (plan-naming n bs a b)
+
+pub named-once : (n t : ℕ) (bs : List ℕ) → misplaced 1 0 bs ≡ none → misnamed n [] 0 bs ≡ none → t < n → length (filter (eqb t) (tables (planOf bs))) ≡ 1
+named-once n t bs a b h = length-filter-sum (eqb t) (tables (planOf bs)) ∙ plan-sum (λ x. oneIf (eqb t x)) n bs a b ∙ sum-from-one t 0 n zero-le (omega arith)

@@ -1,0 +1,126 @@
+-- What the answers up to 10 leave: a file within the rules has its tables and its plan, and a refusal has its number.
+use mathlib.Core.Path.{_≡_, refl, sym, ap, _∙_}
+use mathlib.Core.Bool.{true, false}
+use mathlib.Core.List.{List, [], _∷_}
+use mathlib.Core.Option.{none, some}
+use Prim.Native.Nat.{ℕ, _+_, _≤_, _<_}
+use native.Mathlib.Omega.{arith}
+use lib.ListN.{length, getD}
+use lib.Dec.{ltb}
+use borrow.Author.Tests.{ltb-true, ltb-false, lt-ltb, le-ltb}
+use Rattle.semantics.specs.Lists.{sum, from}
+use Rattle.semantics.specs.Files.{Table, Reading, fault, planBytes, read}
+use Rattle.semantics.specs.Plans.{Plan, tables, misplaced, planOf, misnamed}
+use Rattle.semantics.specs.Shapes.{noTable, shapeOf, illBehaved, rowsIn, scratchNeed}
+use Rattle.semantics.specs.Outcome.{Verdict, refused, admitted, planVerdict, readVerdict, rulesVerdict, scratchVerdict, verdict, WithinRules}
+use Rattle.semantics.proofs.Cases.{cases, option-cases}
+use Rattle.semantics.proofs.Lists.{sum-one}
+use Rattle.semantics.proofs.Numbers.{length-from, sum-shift}
+use Rattle.semantics.proofs.Reading.{ending-cases, fault-number}
+use Rattle.semantics.proofs.Spelling.{spelled-out}
+use Rattle.semantics.proofs.Naming.{plan-sum, named-below}
+use Rattle.semantics.proofs.WellBehaved.{illBehaved-wellBehaved}
+
+pub verdict-cases : {P : Type 0} (v : Verdict) → ((n d : ℕ) → v ≡ refused n d → P) → ((ts : List Table) (p : Plan) → v ≡ admitted ts p → P) → P
+verdict-cases (refused n d) f g = f n d refl
+verdict-cases (admitted ts p) f g = g ts p refl
+
+-- ---- a verdict: what is admitted is within the rules, and the number of a refusal lies in a range
+abbrev Judged : ℕ → ℕ → List Table → Verdict → Type 0
+Judged low high us (refused n d) = (low ≤ n) × (n ≤ high)
+Judged low high us (admitted ts p) = (ts ≡ us) × WithinRules ts p
+
+plan-judged : (ts : List Table) (code : List ℕ) → Judged 7 9 ts (planVerdict ts code)
+unfolding planVerdict
+plan-judged ts code =
+    option-cases (misplaced 1 0 code)
+    (λ h. option-cases (misnamed (length ts) [] 0 code)
+    (λ g. option-cases (illBehaved (shapeOf ts) (planOf code) 0)
+    (λ f. rw (h, g, f, planVerdict) (
+      refl,
+      record {
+        small = (spelled-out code h) .0;
+        named = named-below (length ts) code h g;
+        sums = λ k. plan-sum k (length ts) code h g;
+        behaved = illBehaved-wellBehaved (shapeOf ts) (planOf code) 0 f;
+      },
+    ))
+    (λ i f. rw (h, g, f, planVerdict) (omega arith)))
+    (λ i g. rw (h, g, planVerdict) (omega arith)))
+    (λ i h. rw (h, planVerdict) (omega arith))
+
+widen : (low low′ high high′ : ℕ) (us : List Table) → low′ ≤ low → high ≤ high′ → (v : Verdict) → Judged low high us v → Judged low′ high′ us v
+widen low low′ high high′ us a b (refused n d) j = omega arith
+widen low low′ high high′ us a b (admitted ts p) j = j
+
+rules-judged : (bytes : List ℕ) → Judged 1 9 ((read bytes) .tables) (rulesVerdict bytes)
+unfolding rulesVerdict readVerdict
+rules-judged bytes =
+    ending-cases ((read bytes) .ending)
+    (λ n d e. let h : (1 ≤ n) × (n ≤ 6) = fault-number bytes n d e in rw (e, readVerdict) (omega arith))
+    (λ code e. rw (e, readVerdict) (widen 7 1 9 9 ((read bytes) .tables) (omega arith) (omega arith) (planVerdict ((read bytes) .tables) code) (plan-judged ((read bytes) .tables) code)))
+
+scratch-judged : (words : ℕ) (us : List Table) (v : Verdict) → Judged 1 9 us v → Judged 1 10 us (scratchVerdict words v)
+unfolding scratchVerdict
+scratch-judged words us (refused n d) j = omega arith
+scratch-judged words us (admitted ts p) j = cases (ltb words (scratchNeed ts p)) (λ h. rw (h, scratchVerdict) (omega arith)) (λ h. rw (h, scratchVerdict) j)
+
+verdict-judged : (bytes : List ℕ) (words : ℕ) → Judged 1 10 ((read bytes) .tables) (verdict bytes words)
+unfolding verdict
+verdict-judged bytes words = scratch-judged words ((read bytes) .tables) (rulesVerdict bytes) (rules-judged bytes)
+
+-- ---- as users read it
+pub rules-number : (bytes : List ℕ) (n d : ℕ) → rulesVerdict bytes ≡ refused n d → (1 ≤ n) × (n ≤ 9)
+rules-number bytes n d e = rw e at (rules-judged bytes)
+
+pub rules-tables : (bytes : List ℕ) (ts : List Table) (p : Plan) → rulesVerdict bytes ≡ admitted ts p → ts ≡ (read bytes) .tables
+rules-tables bytes ts p e = (rw e at (rules-judged bytes)) .0
+
+pub rules-within : (bytes : List ℕ) (ts : List Table) (p : Plan) → rulesVerdict bytes ≡ admitted ts p → WithinRules ts p
+rules-within bytes ts p e = (rw e at (rules-judged bytes)) .1
+
+pub verdict-number : (bytes : List ℕ) (words n d : ℕ) → verdict bytes words ≡ refused n d → (1 ≤ n) × (n ≤ 10)
+verdict-number bytes words n d e = rw e at (verdict-judged bytes words)
+
+pub verdict-within : (bytes : List ℕ) (words : ℕ) (ts : List Table) (p : Plan) → verdict bytes words ≡ admitted ts p → WithinRules ts p
+verdict-within bytes words ts p e = (rw e at (verdict-judged bytes words)) .1
+
+-- 10 is due exactly where a file within the rules finds the scratch too short
+pub scratch-short : (bytes : List ℕ) (words : ℕ) (ts : List Table) (p : Plan) → rulesVerdict bytes ≡ admitted ts p → words < scratchNeed ts p → verdict bytes words ≡ refused 10 (scratchNeed ts p)
+unfolding verdict scratchVerdict
+scratch-short bytes words ts p e h = rw (e, lt-ltb words (scratchNeed ts p) h, scratchVerdict)
+
+pub scratch-enough : (bytes : List ℕ) (words : ℕ) (ts : List Table) (p : Plan) → rulesVerdict bytes ≡ admitted ts p → scratchNeed ts p ≤ words → verdict bytes words ≡ admitted ts p
+unfolding verdict scratchVerdict
+scratch-enough bytes words ts p e h = rw (e, le-ltb words (scratchNeed ts p) h, scratchVerdict)
+
+scratch-admitted : (words : ℕ) (v : Verdict) (ts : List Table) (p : Plan) → scratchVerdict words v ≡ admitted ts p → (v ≡ admitted ts p) × (scratchNeed ts p ≤ words)
+unfolding scratchVerdict
+scratch-admitted words (refused n d) ts p e = let z : _≡_ {A = ℕ} 0 1 = cc in absurd (omega arith)
+scratch-admitted words (admitted us q) ts p e =
+    cases (ltb words (scratchNeed us q))
+    (λ h. let f : refused 10 (scratchNeed us q) ≡ admitted ts p = rw (h, scratchVerdict) at e in let z : _≡_ {A = ℕ} 0 1 = cc in absurd (omega arith))
+    (λ h.
+    let f : admitted us q ≡ admitted ts p = rw (h, scratchVerdict) at e in
+    let a : us ≡ ts = cc in
+    let b : q ≡ p = cc in
+    (f, rw (← a, ← b) (ltb-false words (scratchNeed us q) h)))
+
+-- what passed 10 is within the rules and has its scratch
+pub verdict-rules : (bytes : List ℕ) (words : ℕ) (ts : List Table) (p : Plan) → verdict bytes words ≡ admitted ts p → (rulesVerdict bytes ≡ admitted ts p) × (scratchNeed ts p ≤ words)
+unfolding verdict
+verdict-rules bytes words ts p e = scratch-admitted words (rulesVerdict bytes) ts p e
+
+-- ---- sums over the file's tables
+pub sum-tables : (f : Table → ℕ) (ts : List Table) → sum (λ i. f (getD ts i noTable)) (from 0 (length ts)) ≡ sum f ts
+sum-tables f [] = refl
+sum-tables f (t ∷ ts) = ap (λ k. f t + k) (sum-shift (λ i. f (getD (t ∷ ts) i noTable)) 0 (length ts) ∙ sum-tables f ts)
+
+-- k counts the plan's tables and the file's
+pub tables-count : (ts : List Table) (p : Plan) → WithinRules ts p → length (tables p) ≡ length ts
+tables-count ts p w = sym (sum-one (tables p)) ∙ w .sums (λ x. 1) ∙ sum-one (from 0 (length ts)) ∙ length-from 0 (length ts)
+
+-- IN counts the rows of both
+pub rows-count : (ts : List Table) (p : Plan) → WithinRules ts p → sum ((shapeOf ts) .rows) (tables p) ≡ rowsIn ts
+unfolding shapeOf rowsIn
+rows-count ts p w = w .sums (λ i. (getD ts i noTable) .rows) ∙ sum-tables (λ t. t .rows) ts

@@ -1,0 +1,167 @@
+-- Document 01, "The file": the records of a file, read in order, and the answers 1 to 6.
+use mathlib.Core.Path.{_≡_}
+use mathlib.Core.Bool.{Bool, true, false, _&&_, _||_}
+use mathlib.Core.List.{List, [], _∷_, _++_}
+use Prim.Native.Nat.{ℕ, zero, suc, _+_, _*_, _/_, _%_, _^_, _≤_, _<_}
+use lib.ListN.{length, drop, getD}
+use lib.Dec.{eqb, ltb, leb}
+use Rattle.semantics.specs.Lists.{Each, any, sum, upTo}
+
+-- every number of the list is a byte
+abbrev pub Bytes : List ℕ → Type 0
+Bytes l = Each (λ b. b < 256) l
+
+-- the 4-byte number at an offset: little-endian
+unfoldable pub wordAt : List ℕ → ℕ → ℕ
+wordAt l at = getD l at 0 + 256 * getD l (at + 1) 0 + 65536 * getD l (at + 2) 0 + 16777216 * getD l (at + 3) 0
+
+-- bit i of a mask, as a number and as a test
+unfoldable pub bit : ℕ → ℕ → ℕ
+bit m i = m / 2 ^ i % 2
+
+unfoldable pub hasBit : ℕ → ℕ → Bool
+hasBit m i = eqb (bit m i) 1
+
+-- "a column's place": the number of ones of the mask below its bit
+unfoldable pub onesBelow : ℕ → ℕ → ℕ
+onesBelow m i = sum (bit m) (upTo i)
+
+-- "the number of attributes": the number of ones in the mask
+unfoldable pub arity : ℕ → ℕ
+arity m = onesBelow m 32
+
+-- a table as its record gives it
+pub record Table : Type 0 where
+  pub mask : ℕ
+  pub rows : ℕ
+  pub start : ℕ  -- offset of the first column
+
+-- the bytes of all columns of a table
+unfoldable pub columnBytes : ℕ → ℕ → ℕ
+columnBytes mask rows = 4 * (arity mask * rows)
+
+-- the offset of an attribute's column
+unfoldable pub columnStart : Table → ℕ → ℕ
+columnStart t a = t .start + 4 * (onesBelow (t .mask) a * t .rows)
+
+-- the value of an attribute in a row: the word of that row in the column, which is the part of the file from its own offset on
+unfoldable pub value : List ℕ → Table → ℕ → ℕ → ℕ
+value bytes t a y = wordAt (drop (columnStart t a) bytes) (4 * y)
+
+-- what the rules ask of a table in a file of n bytes
+pub record Fitting (n : ℕ) (t : Table) : Type 0 where
+  pub some : 1 ≤ arity (t .mask)
+  pub few : arity (t .mask) ≤ 8
+  pub low : t .rows ≤ 4096
+  pub inside : t .start + columnBytes (t .mask) (t .rows) ≤ n
+
+-- ---- marks
+pub data Mark : Type 0 where
+  cutMark : Mark  -- fewer than two bytes are left
+  tableMark : Mark
+  planMark : Mark
+  otherMark : Mark
+
+-- the mark that the next bytes begin with: how many are left, and the first two
+unfoldable pub markOf : ℕ → ℕ → ℕ → Mark
+markOf left a b =
+    elim (ltb left 2) [
+      | true ↦ cutMark
+      | false ↦
+          elim (eqb a 0x54 && eqb b 0x42) [
+            | true ↦ tableMark
+            | false ↦
+                elim (eqb a 0x50 && eqb b 0x4C) [ true ↦ planMark | false ↦ otherMark ]
+          ]
+    ]
+
+abbrev pub nextMark : List ℕ → Mark
+nextMark l = markOf (length l) (getD l 0 0) (getD l 1 0)
+
+-- ---- a table record, from its mark on: both fields there (1), 3, 4, columns there (1)
+pub data TableRecord : Type 0 where
+  broken : ℕ → TableRecord  -- the number due
+  whole : Table → ℕ → TableRecord  -- the table, and the bytes of its record
+
+-- the record at offset o, with that many bytes left from its mark on, that gives this mask and this row count
+unfoldable pub tableRecord : ℕ → ℕ → ℕ → ℕ → TableRecord
+tableRecord o left mask rows =
+    elim (ltb left 10) [
+      | true ↦ broken 1
+      | false ↦
+          elim (eqb (arity mask) 0 || ltb 8 (arity mask)) [
+            | true ↦ broken 3
+            | false ↦
+                elim (ltb 4096 rows) [
+                  | true ↦ broken 4
+                  | false ↦
+                      elim (ltb left (10 + columnBytes mask rows)) [
+                        | true ↦ broken 1
+                        | false ↦ whole (record { mask = mask; rows = rows; start = o + 10 }) (10 + columnBytes mask rows)
+                      ]
+                ]
+          ]
+    ]
+
+abbrev pub nextTable : ℕ → List ℕ → TableRecord
+nextTable o l = tableRecord o (length l) (wordAt l 2) (wordAt l 6)
+
+-- ---- how the reading ends
+pub data Ending : Type 0 where
+  fault : ℕ → ℕ → Ending  -- number, detail
+  planBytes : List ℕ → Ending  -- the n bytes of the plan
+
+-- the plan record at offset o: 1, then 6
+unfoldable pub planRecord : ℕ → List ℕ → Ending
+planRecord o l =
+    elim (ltb (length l) 3) [
+      | true ↦ fault 1 o
+      | false ↦
+          let n = getD l 2 0 in
+          elim (ltb (length l) (3 + n)) [
+            | true ↦ fault 1 o
+            | false ↦
+                elim (ltb (3 + n) (length l)) [ true ↦ fault 6 (o + (3 + n)) | false ↦ planBytes (drop 3 l) ]
+          ]
+    ]
+
+-- the tables read before the end, in file order, and the end
+pub record Reading : Type 0 where
+  pub tables : List Table
+  pub ending : Ending
+
+-- the reading from offset o on, where the bytes l stand: the tables ts were read before, and k more may come.
+-- Within a record: two bytes left (1), mark (2), 17th (5), and then the record's own rules. The first fault decides.
+unfoldable pub readFrom : ℕ → ℕ → List ℕ → List Table → Reading
+readFrom zero o l ts =
+    elim (nextMark l) [
+      | cutMark ↦ record { tables = ts; ending = fault 1 o }
+      | otherMark ↦ record { tables = ts; ending = fault 2 o }
+      | tableMark ↦ record { tables = ts; ending = fault 5 o }
+      | planMark ↦ record { tables = ts; ending = planRecord o l }
+    ]
+readFrom (suc k) o l ts =
+    elim (nextMark l) [
+      | cutMark ↦ record { tables = ts; ending = fault 1 o }
+      | otherMark ↦ record { tables = ts; ending = fault 2 o }
+      | tableMark ↦
+          elim (nextTable o l) [
+            | broken n ↦ record { tables = ts; ending = fault n o }
+            | whole t size ↦ readFrom k (o + size) (drop size l) (ts ++ (t ∷ []))
+          ]
+      | planMark ↦ record { tables = ts; ending = planRecord o l }
+    ]
+
+-- "a file has at most 16 tables"
+unfoldable pub read : List ℕ → Reading
+read bytes = readFrom 16 0 bytes []
+
+-- ---- files that differ only in attribute values
+-- the byte at an offset stands in a column of one of the tables
+unfoldable pub inColumn : List Table → ℕ → Bool
+inColumn ts i = any (λ t. leb (t .start) i && ltb i (t .start + columnBytes (t .mask) (t .rows))) ts
+
+-- g has f's length, and f's bytes outside the columns of the tables read in f
+pub record SameOutsideColumns (f g : List ℕ) : Type 0 where
+  pub size : length f ≡ length g
+  pub bytes : (i : ℕ) → inColumn ((read f) .tables) i ≡ false → getD f i 0 ≡ getD g i 0

@@ -1,0 +1,11 @@
+pub mod Lists
+pub mod Files
+pub mod Plans
+pub mod Shapes
+pub mod Results
+pub mod SearchTrees
+pub mod Totals
+pub mod Counts
+pub mod Rows
+pub mod Enumeration
+pub mod Outcome
