@@ -1,16 +1,18 @@
 -- Choices and results stand in document 01's order, and `choices` holds every choice exactly once.
-use mathlib.Core.Path.{_≡_, refl, ap₂, _∙_}
+use mathlib.Core.Path.{_≡_, refl, sym, ap, ap₂, _∙_, fun-ext}
 use mathlib.Core.Logic.{_⊎_, inl, inr}
-use mathlib.Core.Bool.{Bool, true, false}
+use mathlib.Core.Bool.{Bool, true, false, _&&_, and-true}
 use mathlib.Core.List.{List, [], _∷_, _++_, map, map-append, map-map}
-use Prim.Native.Nat.{ℕ, zero, suc, _+_, _≤_, _<_}
+use Prim.Native.Nat.{ℕ, zero, suc, _+_, _*_, _≤_, _<_, zero-le}
 use native.Mathlib.Omega.{arith}
-use Rattle.semantics.specs.Lists.{Each, filter, concatMap, from, upTo}
+use lib.ListN.{length, length-map}
+use lib.Dec.{eqb}
+use Rattle.semantics.specs.Lists.{Each, same, filter, concatMap, from, upTo}
 use Rattle.semantics.specs.Plans.{Plan, scan, join, tables}
-use Rattle.semantics.specs.Results.{Base, Pick, Before, InOrder, rowNumbers, choices, agrees, results}
+use Rattle.semantics.specs.Results.{Base, Pick, Before, InOrder, RowsFor, rowNumbers, choices, agrees, results}
 use Rattle.semantics.proofs.Cases.{cases}
-use Rattle.semantics.proofs.Lists.{each, Each-map, Each-append, Each-filter, Each-of-map, Each-unmap, Each-concatMap, concatMap-map, map-concatMap}
-use Rattle.semantics.proofs.Numbers.{from-lt}
+use Rattle.semantics.proofs.Lists.{each, Each-map, Each-append, Each-filter, Each-of-map, Each-unmap, Each-concatMap, concatMap-map, map-concatMap, filter-map, length-filter-sum, count-pairs, same-append}
+use Rattle.semantics.proofs.Numbers.{from-lt, sum-from-one}
 use Rattle.semantics.proofs.Steps.{rowNumbers-append}
 
 before-left : (b c e f : List ℕ) → Before b c → Before (b ++ e) (c ++ f)
@@ -76,3 +78,66 @@ module _ (D : Base) where
       (λ c h. Each-of-map (λ d. map (λ x. x .table) d ≡ tables l ++ tables r) (λ e. c ++ e) (choices D r)
       (Each-map (λ e. map (λ x. x .table) e ≡ tables r) (λ e. map (λ x. x .table) (c ++ e) ≡ tables l ++ tables r) (λ e g. map-append (λ x. x .table) c e ∙ ap₂ (λ a b. a ++ b) h g) (choices D r) (choices-named r)))
       (choices D l) (choices-named l))
+
+  -- ---- every choice, and each once
+  rowsFor-length : (ts ys : List ℕ) → RowsFor D ts ys → length ys ≡ length ts
+  rowsFor-length [] [] h = refl
+  rowsFor-length [] (y ∷ ys) h = absurd h
+  rowsFor-length (t ∷ ts) [] h = absurd h
+  rowsFor-length (t ∷ ts) (y ∷ ys) h = ap suc (rowsFor-length ts ys (h .1))
+
+  rowsFor-append : (ts us ys zs : List ℕ) → RowsFor D ts ys → RowsFor D us zs → RowsFor D (ts ++ us) (ys ++ zs)
+  rowsFor-append [] us [] zs h g = g
+  rowsFor-append [] us (y ∷ ys) zs h g = absurd h
+  rowsFor-append (t ∷ ts) us [] zs h g = absurd h
+  rowsFor-append (t ∷ ts) us (y ∷ ys) zs h g = (h .0, rowsFor-append ts us ys zs (h .1) g)
+
+  record Halves (ts us ys : List ℕ) : Type 0 where
+    pub left : List ℕ
+    pub right : List ℕ
+    pub is : ys ≡ left ++ right
+    pub lefts : RowsFor D ts left
+    pub rights : RowsFor D us right
+
+  rowsFor-split : (ts us ys : List ℕ) → RowsFor D (ts ++ us) ys → Halves ts us ys
+  rowsFor-split [] us ys h = record { left = []; right = ys; is = refl; lefts = tt; rights = h }
+  rowsFor-split (t ∷ ts) us [] h = absurd h
+  rowsFor-split (t ∷ ts) us (y ∷ ys) h =
+      let s = rowsFor-split ts us ys (h .1) in
+      record { left = y ∷ s .left; right = s .right; is = ap (λ l. y ∷ l) (s .is); lefts = (h .0, s .lefts); rights = s .rights }
+
+  -- each has one row of each table
+  pub choices-rows : (p : Plan) → Each (λ c. RowsFor D (tables p) (rowNumbers c)) (choices D p)
+  choices-rows (scan t) =
+      unfold upTo rowNumbers in
+      Each-of-map (λ c. RowsFor D (t ∷ []) (rowNumbers c)) (λ y. record { table = t; row = y } ∷ []) (from 0 (D .shape .rows t))
+      (Each-map (λ y. (0 ≤ y) × (y < 0 + D .shape .rows t)) (λ y. (y < D .shape .rows t) × Unit {0}) (λ y h. (omega arith, tt)) (from 0 (D .shape .rows t)) (from-lt 0 (D .shape .rows t)))
+  choices-rows (join l r) =
+      Each-concatMap (λ c. RowsFor D (tables l ++ tables r) (rowNumbers c)) (λ c. map (λ e. c ++ e) (choices D r)) (choices D l)
+      (Each-map (λ c. RowsFor D (tables l) (rowNumbers c)) (λ c. Each (λ d. RowsFor D (tables l ++ tables r) (rowNumbers d)) (map (λ e. c ++ e) (choices D r)))
+      (λ c h. Each-of-map (λ d. RowsFor D (tables l ++ tables r) (rowNumbers d)) (λ e. c ++ e) (choices D r)
+      (Each-map (λ e. RowsFor D (tables r) (rowNumbers e)) (λ e. RowsFor D (tables l ++ tables r) (rowNumbers (c ++ e)))
+      (λ e g. rw (rowNumbers-append c e) (rowsFor-append (tables l) (tables r) (rowNumbers c) (rowNumbers e) h g)) (choices D r) (choices-rows r)))
+      (choices D l) (choices-rows l))
+
+  -- and for any row numbers, one of each table, there is exactly one choice with them
+  pub choices-once : (p : Plan) (ys : List ℕ) → RowsFor D (tables p) ys → length (filter (λ c. same ys (rowNumbers c)) (choices D p)) ≡ 1
+  choices-once (scan t) [] h = absurd h
+  choices-once (scan t) (y ∷ (z ∷ ys)) h = absurd (h .1)
+  choices-once (scan t) (y ∷ []) h =
+      unfold upTo rowNumbers in
+      ap length (filter-map (λ c. same (y ∷ []) (rowNumbers c)) (λ z. record { table = t; row = z } ∷ []) (from 0 (D .shape .rows t)))
+      ∙ length-map (filter (λ z. eqb y z && true) (from 0 (D .shape .rows t))) (λ z. record { table = t; row = z } ∷ [])
+      ∙ ap (λ q. length (filter q (from 0 (D .shape .rows t)))) (fun-ext (λ z. and-true (eqb y z)))
+      ∙ length-filter-sum (eqb y) (from 0 (D .shape .rows t))
+      ∙ sum-from-one y 0 (D .shape .rows t) zero-le (omega (arith, h .0))
+  choices-once (join l r) ys h =
+      let s = rowsFor-split (tables l) (tables r) ys h in
+      rw (s .is)
+      (count-pairs (λ c. same (s .left ++ s .right) (rowNumbers c)) (λ c. same (s .left) (rowNumbers c)) (λ e. same (s .right) (rowNumbers e)) (choices D l) (choices D r)
+      (Each-map (λ c. RowsFor D (tables l) (rowNumbers c)) (λ c. Each (λ e. same (s .left ++ s .right) (rowNumbers (c ++ e)) ≡ (same (s .left) (rowNumbers c) && same (s .right) (rowNumbers e))) (choices D r))
+      (λ c g. each (λ e. same (s .left ++ s .right) (rowNumbers (c ++ e)) ≡ (same (s .left) (rowNumbers c) && same (s .right) (rowNumbers e)))
+      (λ e. ap (same (s .left ++ s .right)) (rowNumbers-append c e)
+      ∙ same-append (s .left) (s .right) (rowNumbers c) (rowNumbers e) (rowsFor-length (tables l) (s .left) (s .lefts) ∙ sym (rowsFor-length (tables l) (rowNumbers c) g))) (choices D r))
+      (choices D l) (choices-rows l))
+      ∙ ap₂ (λ a b. a * b) (choices-once l (s .left) (s .lefts)) (choices-once r (s .right) (s .rights)))

@@ -20,3 +20,5 @@ pub mod Values
 pub mod Rules
 pub mod Output
 pub mod Answers
+pub mod Samples
+pub mod Bags

@@ -1,14 +1,14 @@
 -- Laws of the lists of `specs/Lists.antt`.
-use mathlib.Core.Path.{_≡_, refl, sym, ap, _∙_}
+use mathlib.Core.Path.{_≡_, refl, sym, ap, ap₂, _∙_}
 use mathlib.Core.Bool.{Bool, true, false, _&&_, _||_, not, and-false, and-comm}
 use mathlib.Core.List.{List, [], _∷_, _++_, map, append-assoc, map-append}
 use Prim.Native.Nat.{ℕ, _+_, _*_, _≤_}
 use native.Mathlib.Omega.{arith}
-use native.Mathlib.Nat.{zero-add, zero-mul, suc-mul}
-use lib.ListN.{length, length-append}
+use native.Mathlib.Nat.{zero-add, zero-mul, suc-mul, mul-assoc}
+use lib.ListN.{length, length-append, length-map}
 use lib.Dec.{eqb}
 use borrow.Author.Tests.{eqb-true, eq-eqb, ne-eqb}
-use Rattle.semantics.specs.Lists.{oneIf, Each, same, any, all, sum, filter, consIf, onlyIf, nonEmpty, concatMap}
+use Rattle.semantics.specs.Lists.{oneIf, Each, same, any, all, sum, product, filter, consIf, onlyIf, nonEmpty, concatMap}
 use Rattle.semantics.proofs.Cases.{cases}
 
 module _ {A : Type 0} where
@@ -204,6 +204,10 @@ module _ {A B : Type 0} where
   map-onlyIf f true xs = refl
   map-onlyIf f false xs = refl
 
+  pub map-consIf : (f : A → B) (b : Bool) (x : A) (xs : List A) → map f (consIf b x xs) ≡ consIf b (f x) (map f xs)
+  map-consIf f true x xs = refl
+  map-consIf f false x xs = refl
+
   pub map-each : (f g : A → B) (xs : List A) → Each (λ x. f x ≡ g x) xs → map f xs ≡ map g xs
   map-each f g [] e = refl
   map-each f g (x ∷ xs) e = rw (e .0, map-each f g xs (e .1))
@@ -272,7 +276,30 @@ module _ {A B C : Type 0} where
   map-concatMap g f [] = refl
   map-concatMap g f (x ∷ xs) = map-append g (f x) (concatMap f xs) ∙ rw (map-concatMap g f xs)
 
+module _ {A : Type 0} where
+  pub product-append : (f : A → ℕ) (xs ys : List A) → product f (xs ++ ys) ≡ product f xs * product f ys
+  product-append f [] ys = omega arith
+  product-append f (x ∷ xs) ys = ap (λ n. f x * n) (product-append f xs ys) ∙ sym (mul-assoc (f x) (product f xs) (product f ys))
+
+  -- how many pairs pass a test that tests their halves
+  pub count-pairs : (p q r : List A → Bool) (cs es : List (List A)) → Each (λ c. Each (λ e. p (c ++ e) ≡ (q c && r e)) es) cs
+      → length (filter p (concatMap (λ c. map (λ e. c ++ e) es) cs)) ≡ length (filter q cs) * length (filter r es)
+  count-pairs p q r [] es h = sym (zero-mul (length (filter r es)))
+  count-pairs p q r (c ∷ cs) es h =
+      let one : length (filter p (map (λ e. c ++ e) es)) ≡ length (filter (λ e. q c && r e) es)
+          = ap length (filter-map p (λ e. c ++ e) es) ∙ length-map (filter (λ e. p (c ++ e)) es) (λ e. c ++ e) ∙ ap length (filter-each (λ e. p (c ++ e)) (λ e. q c && r e) es (h .0)) in
+      ap length (filter-append p (map (λ e. c ++ e) es) (concatMap (λ c. map (λ e. c ++ e) es) cs))
+      ∙ length-append (filter p (map (λ e. c ++ e) es)) (filter p (concatMap (λ c. map (λ e. c ++ e) es) cs))
+      ∙ ap₂ (λ a b. a + b) one (count-pairs p q r cs es (h .1))
+      ∙ cases (q c) (λ g. rw g (omega (arith, suc-mul (length (filter q cs)) (length (filter r es))))) (λ g. rw g (ap (λ n. length n + length (filter q cs) * length (filter r es)) (filter-false es) ∙ omega arith))
+
 -- ---- equal lists of numbers
+pub same-append : (a b c d : List ℕ) → length a ≡ length c → same (a ++ b) (c ++ d) ≡ (same a c && same b d)
+same-append [] b [] d h = refl
+same-append [] b (y ∷ c) d h = absurd (omega arith)
+same-append (x ∷ a) b [] d h = absurd (omega arith)
+same-append (x ∷ a) b (y ∷ c) d h = cases (eqb x y) (λ e. rw e (same-append a b c d (omega arith))) (λ e. rw e)
+
 pub same-refl : (k : List ℕ) → same k k ≡ true
 same-refl [] = refl
 same-refl (x ∷ k) = rw (eq-eqb x x refl) (same-refl k)

@@ -6,6 +6,8 @@ pub mod Results
 pub mod SearchTrees
 pub mod Totals
 pub mod Counts
+pub mod Bags
 pub mod Rows
 pub mod Enumeration
 pub mod Outcome
+pub mod Samples

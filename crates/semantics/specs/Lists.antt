@@ -1,7 +1,7 @@
 -- Lists tested by Booleans, sums over lists, and rows of numbers.
 use mathlib.Core.Bool.{Bool, true, false, _&&_, _||_}
 use mathlib.Core.List.{List, [], _∷_, _++_}
-use Prim.Native.Nat.{ℕ, zero, suc, _+_, _<_}
+use Prim.Native.Nat.{ℕ, zero, suc, _+_, _*_, _<_}
 use lib.Dec.{eqb}
 
 abbrev pub oneIf : Bool → ℕ
@@ -30,6 +30,10 @@ module _ {A : Type 0} where
   abbrev pub sum : (A → ℕ) → List A → ℕ
   sum f [] = 0
   sum f (x ∷ xs) = f x + sum f xs
+
+  abbrev pub product : (A → ℕ) → List A → ℕ
+  product f [] = 1
+  product f (x ∷ xs) = f x * product f xs
 
   -- there is an element
   abbrev pub nonEmpty : List A → Bool
