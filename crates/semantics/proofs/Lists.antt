@@ -287,7 +287,7 @@ module _ {A : Type 0} where
   count-pairs p q r [] es h = sym (zero-mul (length (filter r es)))
   count-pairs p q r (c ∷ cs) es h =
       let one : length (filter p (map (λ e. c ++ e) es)) ≡ length (filter (λ e. q c && r e) es)
-          = ap length (filter-map p (λ e. c ++ e) es) ∙ length-map (filter (λ e. p (c ++ e)) es) (λ e. c ++ e) ∙ ap length (filter-each (λ e. p (c ++ e)) (λ e. q c && r e) es (h .0)) in
+      = ap length (filter-map p (λ e. c ++ e) es) ∙ length-map (filter (λ e. p (c ++ e)) es) (λ e. c ++ e) ∙ ap length (filter-each (λ e. p (c ++ e)) (λ e. q c && r e) es (h .0)) in
       ap length (filter-append p (map (λ e. c ++ e) es) (concatMap (λ c. map (λ e. c ++ e) es) cs))
       ∙ length-append (filter p (map (λ e. c ++ e) es)) (filter p (concatMap (λ c. map (λ e. c ++ e) es) cs))
       ∙ ap₂ (λ a b. a + b) one (count-pairs p q r cs es (h .1))
