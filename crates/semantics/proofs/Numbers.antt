@@ -1,9 +1,10 @@
 -- Rising rows of numbers: `from`, `upTo` and `Rising`.
-use mathlib.Core.Path.{_≡_, refl, ap, subst}
+use mathlib.Core.Path.{_≡_, refl, ap, _∙_, subst}
 use mathlib.Core.Bool.{Bool, true, false, _&&_, or-false}
 use mathlib.Core.List.{List, [], _∷_, append-nil}
 use Prim.Native.Nat.{ℕ, zero, suc, _+_, _≤_, _<_}
 use native.Mathlib.Omega.{arith}
+use native.Mathlib.Nat.{zero-add, add-zero}
 use lib.ListN.{length}
 use lib.Dec.{eqb}
 use borrow.Author.Tests.{eqb-true, eqb-false, ne-eqb}
@@ -29,6 +30,14 @@ from-at P i (suc n) a e h g =
 pub sum-shift : (f : ℕ → ℕ) (i n : ℕ) → sum f (from (suc i) n) ≡ sum (λ j. f (suc j)) (from i n)
 sum-shift f i zero = refl
 sum-shift f i (suc n) = ap (λ k. f (suc i) + k) (sum-shift f (suc i) n)
+
+-- the last number of the row apart
+sum-last-from : (f : ℕ → ℕ) (i n : ℕ) → sum f (from i (suc n)) ≡ sum f (from i n) + f (i + n)
+sum-last-from f i zero = rw (add-zero i) (omega arith)
+sum-last-from f i (suc n) = let e : suc i + n ≡ i + suc n = omega arith in omega (arith, sum-last-from f (suc i) n, ap f e)
+
+pub sum-last : (f : ℕ → ℕ) (n : ℕ) → sum f (from 0 (suc n)) ≡ sum f (from 0 n) + f n
+sum-last f n = sum-last-from f 0 n ∙ ap (λ k. sum f (from 0 n) + f k) (zero-add n)
 
 pub rising-from : (i n : ℕ) → Rising (from i n)
 rising-from i zero = tt
