@@ -2,15 +2,16 @@
 use mathlib.Core.Path.{_≡_, refl, sym, ap, _∙_}
 use mathlib.Core.Bool.{Bool, true, false, _||_}
 use mathlib.Core.List.{List, [], _∷_, _++_, append-assoc, append-nil}
-use Prim.Native.Nat.{ℕ, zero, suc, _+_, _*_, _^_, _≤_, _<_}
+use Prim.Native.Nat.{ℕ, zero, suc, _+_, _-_, _*_, _^_, _≤_, _<_}
 use native.Mathlib.Omega.{arith}
 use lib.ListN.{length, drop, getD, length-drop}
+use lib.Seq.{drop-drop}
 use lib.Dec.{eqb, ltb}
 use borrow.Author.Tests.{eqb-true, eqb-false, ltb-true, ltb-false}
 use Rattle.semantics.specs.Lists.{Each}
 use Rattle.semantics.specs.Files.{Bytes, wordAt, arity, columnBytes, columnStart, Table, Fitting, value, Mark, cutMark, tableMark, planMark, otherMark, nextMark, TableRecord, broken, whole, tableRecord, nextTable, Ending, fault, planBytes, planRecord, Reading, readFrom, read}
 use Rattle.semantics.proofs.Cases.{cases, or-false-left, or-false-right}
-use Rattle.semantics.proofs.Lists.{Each-map}
+use Rattle.semantics.proofs.Lists.{Each-map, Each-append}
 
 -- ---- either way the parts of the reading go
 pub mark-cases : {P : Type 0} (m : Mark) → (m ≡ cutMark → P) → (m ≡ tableMark → P) → (m ≡ planMark → P) → (m ≡ otherMark → P) → P
@@ -149,3 +150,78 @@ word-small l at e = omega (arith, byte-at l at e, byte-at l (at + 1) e, byte-at 
 pub value-small : (bytes : List ℕ) (t : Table) (a y : ℕ) → Bytes bytes → value bytes t a y < 2 ^ 32
 unfolding value
 value-small bytes t a y e = word-small (drop (columnStart t a) bytes) (4 * y) (bytes-drop (columnStart t a) bytes e)
+
+pub bytes-of : (l : List ℕ) → ((i : ℕ) → getD l i 0 < 256) → Bytes l
+bytes-of [] h = tt
+bytes-of (x ∷ l) h = (h 0, bytes-of l (λ i. h (suc i)))
+
+-- ---- masks are words
+abbrev Masked : TableRecord → ℕ → Type 0
+Masked (broken n) m = Unit {0}
+Masked (whole t size) m = t .mask ≡ m
+
+record-mask : (o left m n : ℕ) → Masked (tableRecord o left m n) m
+unfolding tableRecord
+record-mask o left m n =
+    cases (ltb left 10) (λ a. rw (a, tableRecord) tt)
+    (λ a. cases (eqb (arity m) 0 || ltb 8 (arity m)) (λ b. rw (a, b, tableRecord) tt)
+    (λ b. cases (ltb 4096 n) (λ c. rw (a, b, c, tableRecord) tt)
+    (λ c. cases (ltb left (10 + columnBytes m n)) (λ d. rw (a, b, c, d, tableRecord) tt) (λ d. rw (a, b, c, d, tableRecord) refl))))
+
+abbrev HasWord : Table → Type 0
+HasWord t = t .mask < 2 ^ 32
+
+masks-from : (k o : ℕ) (l : List ℕ) (ts : List Table) → Bytes l → Each HasWord ts → Each HasWord ((readFrom k o l ts) .tables)
+unfolding readFrom
+masks-from zero o l ts b e = mark-cases (nextMark l) (λ m. rw (m, readFrom) e) (λ m. rw (m, readFrom) e) (λ m. rw (m, readFrom) e) (λ m. rw (m, readFrom) e)
+masks-from (suc k) o l ts b e =
+    mark-cases (nextMark l)
+    (λ m. rw (m, readFrom) e)
+    (λ m. record-cases (nextTable o l)
+    (λ n q. rw (m, q, readFrom) e)
+    (λ t size q.
+    let w : t .mask ≡ wordAt l 2 = rw q at (record-mask o (length l) (wordAt l 2) (wordAt l 6)) in
+    rw (m, q, readFrom) (masks-from k (o + size) (drop size l) (ts ++ (t ∷ [])) (bytes-drop size l b) (Each-append HasWord ts (t ∷ []) e (omega (arith, word-small l 2 b), tt)))))
+    (λ m. rw (m, readFrom) e)
+    (λ m. rw (m, readFrom) e)
+
+pub tables-masks : (bytes : List ℕ) → Bytes bytes → Each (λ t. t .mask < 2 ^ 32) ((read bytes) .tables)
+unfolding read
+tables-masks bytes b = masks-from 16 0 bytes [] b tt
+
+-- ---- the plan's bytes are the last ones of the file
+abbrev Suffix : List ℕ → Ending → Type 0
+Suffix l (fault n d) = Unit {0}
+Suffix l (planBytes code) = (i : ℕ) × (i ≤ length l) × (code ≡ drop i l)
+
+plan-suffix : (o : ℕ) (l : List ℕ) → Suffix l (planRecord o l)
+unfolding planRecord
+plan-suffix o l =
+    cases (ltb (length l) 3) (λ a. rw (a, planRecord) tt)
+    (λ a. cases (ltb (length l) (3 + getD l 2 0)) (λ b. rw (a, b, planRecord) tt)
+    (λ b. cases (ltb (3 + getD l 2 0) (length l)) (λ c. rw (a, b, c, planRecord) tt) (λ c. rw (a, b, c, planRecord) (3, ltb-false (length l) 3 a, refl))))
+
+longer : (n : ℕ) (l : List ℕ) → n ≤ length l → (e : Ending) → Suffix (drop n l) e → Suffix l e
+longer n l h (fault a d) s = tt
+longer n l h (planBytes code) s = (n + s .0, omega (arith, s .1, length-drop n l), s .2 ∙ drop-drop (s .0) n l)
+
+suffix-from : (k o : ℕ) (l : List ℕ) (ts : List Table) → Suffix l ((readFrom k o l ts) .ending)
+unfolding readFrom
+suffix-from zero o l ts = mark-cases (nextMark l) (λ m. rw (m, readFrom) tt) (λ m. rw (m, readFrom) tt) (λ m. rw (m, readFrom) (plan-suffix o l)) (λ m. rw (m, readFrom) tt)
+suffix-from (suc k) o l ts =
+    mark-cases (nextMark l)
+    (λ m. rw (m, readFrom) tt)
+    (λ m. record-cases (nextTable o l)
+    (λ n q. rw (m, q, readFrom) tt)
+    (λ t size q.
+    let w = whole-is o l t size q in
+    rw (m, q, readFrom) (longer size l (w .there) ((readFrom k (o + size) (drop size l) (ts ++ (t ∷ []))) .ending) (suffix-from k (o + size) (drop size l) (ts ++ (t ∷ []))))))
+    (λ m. rw (m, readFrom) (plan-suffix o l))
+    (λ m. rw (m, readFrom) tt)
+
+pub plan-last : (bytes code : List ℕ) → (read bytes) .ending ≡ planBytes code → drop (length bytes - length code) bytes ≡ code
+unfolding read
+plan-last bytes code e =
+    let (i, h, q) = rw e at (suffix-from 16 0 bytes []) in
+    let n : length bytes - length code ≡ i = omega (arith, ap length q, length-drop i bytes) in
+    ap (λ k. drop k bytes) n ∙ sym q

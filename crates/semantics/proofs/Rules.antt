@@ -70,6 +70,9 @@ unfolding verdict
 verdict-judged bytes words = scratch-judged words ((read bytes) .tables) (rulesVerdict bytes) (rules-judged bytes)
 
 -- ---- as users read it
+pub plan-within : (ts us : List Table) (code : List ℕ) (p : Plan) → planVerdict ts code ≡ admitted us p → (us ≡ ts) × WithinRules us p
+plan-within ts us code p e = rw e at (plan-judged ts code)
+
 pub rules-number : (bytes : List ℕ) (n d : ℕ) → rulesVerdict bytes ≡ refused n d → (1 ≤ n) × (n ≤ 9)
 rules-number bytes n d e = rw e at (rules-judged bytes)
 

@@ -1,3 +1,4 @@
 pub mod Masks
 pub mod Bounds
 pub mod Parts
+pub mod Arrays

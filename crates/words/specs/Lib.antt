@@ -1,1 +1,2 @@
--- The contracts of this crate cite the definitions of `semantics` alone.
+-- The contracts of this crate cite the definitions of `semantics`; what stands here is for the crates above.
+pub mod Arrays

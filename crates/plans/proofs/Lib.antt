@@ -1,0 +1,10 @@
+pub mod Reading
+pub mod Names
+pub mod Places
+pub mod Judging
+pub mod Growing
+pub mod Scheduling
+pub mod Whole
+pub mod Admitting
+pub mod Scratch
+pub mod Verdicts

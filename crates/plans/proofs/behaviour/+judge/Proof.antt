@@ -1,0 +1,224 @@
+use Prim.Native.Nat.{_-_}
+use lib.ListN.{length}
+use mathlib.Core.Path.{refl, sym, ap, _∙_}
+use borrow.Author.Needs.{needs}
+use native.Mathlib.Omega.{arith}
+use Rattle.plans.proofs.Places.{starts, table, left, right, left-ends}
+use Rattle.plans.proofs.Judging.{one-table, two-plans, left-index, right-index}
+use Prim.Native.Nat.{ℕ, _<_}
+use borrow.Fn.Kinds.{In}
+use borrow.Fn.PlainCycle.{Measures, is, falls, and}
+use Rattle.plans.proofs.behaviour.judge.Reads as judge
+use Rattle.plans.proofs.behaviour.judge.Kinds as judge-kinds
+use Rattle.plans.proofs.behaviour.+judge.Lts-judge as judge-lts
+use Rattle.plans.proofs.behaviour.broken_at.Reads as broken-at-reads
+use Rattle.plans.proofs.behaviour.wide.Reads as wide-reads
+use Rattle.plans.proofs.behaviour.+judge.{statement}
+use Rattle.plans.proofs.behaviour.+judge.Tie.{close}
+
+abbrev μ-judge : Measures 2 judge-kinds.ps ℕ
+μ-judge κs a = length (a .0 .now) - a .1 .1 .0
+
+abbrev judge-at : ℕ → In 2 judge-kinds.ps
+judge-at t = and 2 judge-kinds.ps (is 2 judge-kinds.ps μ-judge t) judge.Pre
+
+abbrev judge-below : ℕ → In 2 judge-kinds.ps
+judge-below t = and 2 judge-kinds.ps (falls 2 judge-kinds.ps _<_ μ-judge t) judge.Pre
+
+-- src/behaviour.rt:57:13
+judge-shared-slice-read-b : (t : ℕ) → judge-lts.Need-shared-slice-read-b (
+  judge-below t,
+  judge.Post,
+  broken-at-reads.Asked,
+  broken-at-reads.Learnt,
+  wide-reads.Asked,
+  wide-reads.Learnt,
+) (judge-at t) judge.Post
+judge-shared-slice-read-b t c = starts _ _ (c .before .before .pre .1)
+
+-- src/behaviour.rt:60:43
+judge-add-judge : (t : ℕ) → judge-lts.Need-add-judge (
+  judge-below t,
+  judge.Post,
+  broken-at-reads.Asked,
+  broken-at-reads.Learnt,
+  wide-reads.Asked,
+  wide-reads.Learnt,
+) (judge-at t) judge.Post
+judge-add-judge t c = omega (arith, starts _ _ (c .before .before .before .pre .1))
+
+-- src/behaviour.rt:60:17
+judge-judge-requires : (t : ℕ) → judge-lts.Need-judge-requires (
+  judge-below t,
+  judge.Post,
+  broken-at-reads.Asked,
+  broken-at-reads.Learnt,
+  wide-reads.Asked,
+  wide-reads.Learnt,
+) (judge-at t) judge.Post
+judge-judge-requires t c κs = let q = c .before .before .before .pre .1 in (omega (arith, starts _ _ q), left _ _ (c .match .keys1) q)
+
+-- src/behaviour.rt:62:17
+judge-judge-requires-2 : (t : ℕ) → judge-lts.Need-judge-requires-2 (
+  judge-below t,
+  judge.Post,
+  broken-at-reads.Asked,
+  broken-at-reads.Learnt,
+  wide-reads.Asked,
+  wide-reads.Learnt,
+) (judge-at t) judge.Post
+judge-judge-requires-2 t c κs = let q = c .before .before .before .before .pre .1 in
+    let k = c .before .match .keys1 in (
+      omega (arith, starts _ _ q, left-ends _ _ _ k (λ p e h. (c .judge .ensures p e h) .next) q),
+      right _ _ _ k (λ p e h. (c .judge .ensures p e h) .next) q,
+    )
+
+-- src/behaviour.rt:65:53
+judge-mul-broken-at : (t : ℕ) → judge-lts.Need-mul-broken-at (
+  judge-below t,
+  judge.Post,
+  broken-at-reads.Asked,
+  broken-at-reads.Learnt,
+  wide-reads.Asked,
+  wide-reads.Learnt,
+) (judge-at t) judge.Post
+judge-mul-broken-at t c = omega (arith, left-index _ _ _ (c .before .before .match .keys1) _ (c .before .judge .ensures) (c .before .before .before .before .before .pre .1))
+
+-- src/behaviour.rt:65:53
+judge-element-copy-out-broken-at : (t : ℕ) → judge-lts.Need-element-copy-out-broken-at (
+  judge-below t,
+  judge.Post,
+  broken-at-reads.Asked,
+  broken-at-reads.Learnt,
+  wide-reads.Asked,
+  wide-reads.Learnt,
+) (judge-at t) judge.Post
+judge-element-copy-out-broken-at t c = omega (arith, left-index _ _ _ (c .before .before .match .keys1) _ (c .before .judge .ensures) (c .before .before .before .before .before .pre .1))
+
+-- src/behaviour.rt:65:63
+judge-mul-broken-at-2 : (t : ℕ) → judge-lts.Need-mul-broken-at-2 (
+  judge-below t,
+  judge.Post,
+  broken-at-reads.Asked,
+  broken-at-reads.Learnt,
+  wide-reads.Asked,
+  wide-reads.Learnt,
+) (judge-at t) judge.Post
+judge-mul-broken-at-2 t c = omega (arith, right-index _ _ _ (c .before .before .before .match .keys1) _ (c .before .before .judge .ensures) (c .before .before .before .before .before .before .pre .1) _ (c .before .judge2 .ensures))
+
+-- src/behaviour.rt:65:63
+judge-element-copy-out-broken-at-2 : (t : ℕ) → judge-lts.Need-element-copy-out-broken-at-2 (
+  judge-below t,
+  judge.Post,
+  broken-at-reads.Asked,
+  broken-at-reads.Learnt,
+  wide-reads.Asked,
+  wide-reads.Learnt,
+) (judge-at t) judge.Post
+judge-element-copy-out-broken-at-2 t c = omega (arith, right-index _ _ _ (c .before .before .before .match .keys1) _ (c .before .before .judge .ensures) (c .before .before .before .before .before .before .pre .1) _ (c .before .judge2 .ensures))
+
+-- src/behaviour.rt:65:17
+judge-broken-at-requires : (t : ℕ) → judge-lts.Need-broken-at-requires (
+  judge-below t,
+  judge.Post,
+  broken-at-reads.Asked,
+  broken-at-reads.Learnt,
+  wide-reads.Asked,
+  wide-reads.Learnt,
+) (judge-at t) judge.Post
+judge-broken-at-requires t c κs = search needs
+
+-- src/behaviour.rt:74:17
+judge-wide-requires : (t : ℕ) → judge-lts.Need-wide-requires (
+  judge-below t,
+  judge.Post,
+  broken-at-reads.Asked,
+  broken-at-reads.Learnt,
+  wide-reads.Asked,
+  wide-reads.Learnt,
+) (judge-at t) judge.Post
+judge-wide-requires t c κs = search needs
+
+-- src/behaviour.rt:76:29
+judge-mul-t23 : (t : ℕ) → judge-lts.Need-mul-t23 (
+  judge-below t,
+  judge.Post,
+  broken-at-reads.Asked,
+  broken-at-reads.Learnt,
+  wide-reads.Asked,
+  wide-reads.Learnt,
+) (judge-at t) judge.Post
+judge-mul-t23 t c = omega (arith, c .wide .ensures .0, table _ _ (c .before .match .rest .1) (c .before .before .before .before .pre .1))
+
+-- src/behaviour.rt:76:29
+judge-element-copy-out-t26 : (t : ℕ) → judge-lts.Need-element-copy-out-t26 (
+  judge-below t,
+  judge.Post,
+  broken-at-reads.Asked,
+  broken-at-reads.Learnt,
+  wide-reads.Asked,
+  wide-reads.Learnt,
+) (judge-at t) judge.Post
+judge-element-copy-out-t26 t c = omega (arith, c .wide .ensures .0, table _ _ (c .before .match .rest .1) (c .before .before .before .before .pre .1))
+
+-- src/behaviour.rt:78:23
+judge-add-t27 : (t : ℕ) → judge-lts.Need-add-t27 (
+  judge-below t,
+  judge.Post,
+  broken-at-reads.Asked,
+  broken-at-reads.Learnt,
+  wide-reads.Asked,
+  wide-reads.Learnt,
+) (judge-at t) judge.Post
+judge-add-t27 t c = omega (arith, starts _ _ (c .before .before .before .before .before .pre .1))
+
+-- src/behaviour.rt:53:1
+judge-returns : (t : ℕ) → judge-lts.Need-returns (
+  judge-below t,
+  judge.Post,
+  broken-at-reads.Asked,
+  broken-at-reads.Learnt,
+  wide-reads.Asked,
+  wide-reads.Learnt,
+) (judge-at t) judge.Post
+judge-returns t c = λ p e h.
+    rw (c .before .before .broken-at .ensures)
+    (two-plans _ _ _ (c .before .before .before .before .before .before .before .match .keys1) _ _ (c .before .before .before .before .before .before .judge .ensures) (c .before .before .before .before .before .judge2 .ensures) p e h)
+
+-- src/behaviour.rt:53:1
+judge-returns-2 : (t : ℕ) → judge-lts.Need-returns-2 (
+  judge-below t,
+  judge.Post,
+  broken-at-reads.Asked,
+  broken-at-reads.Learnt,
+  wide-reads.Asked,
+  wide-reads.Learnt,
+) (judge-at t) judge.Post
+judge-returns-2 t c = λ p e h. one-table _ _ _ (c .before .before .match .rest .1) _ (c .before .wide .ensures .0) p e h
+
+pub +judge-spec : {M : Type 1} → statement M
++judge-spec = close μ-judge λ t. judge-lts.spec (
+  judge-below t,
+  judge.Post,
+  broken-at-reads.Asked,
+  broken-at-reads.Learnt,
+  wide-reads.Asked,
+  wide-reads.Learnt,
+)
+    (judge-at t)
+    judge.Post
+    (judge-shared-slice-read-b t)
+    (judge-add-judge t)
+    (judge-judge-requires t)
+    (judge-judge-requires-2 t)
+    (judge-mul-broken-at t)
+    (judge-element-copy-out-broken-at t)
+    (judge-mul-broken-at-2 t)
+    (judge-element-copy-out-broken-at-2 t)
+    (judge-broken-at-requires t)
+    (judge-wide-requires t)
+    (judge-mul-t23 t)
+    (judge-element-copy-out-t26 t)
+    (judge-add-t27 t)
+    (judge-returns t)
+    (judge-returns-2 t)

@@ -1,0 +1,6 @@
+pub mod Spelling
+pub mod Places
+pub mod Names
+pub mod Judging
+pub mod Schedules
+pub mod Admissions

@@ -1,0 +1,42 @@
+// Answer 8: each table is named exactly once.
+ghost use mathlib.Core.Path.{_≡_};
+ghost use mathlib.Core.List.{[]};
+ghost use Prim.Native.Nat.{ℕ, _+_, _<_, _≤_};
+ghost use Rattle.semantics.specs.Plans.{misnamed};
+ghost use Rattle.plans.specs.Spelling.{foundOf};
+use crate::spelling::Found;
+
+fn wide(x: u8) -> usize
+    ensures { λ r. ⌜ (r ≡ x) × (r < 256) ⌝ }
+{
+    x as usize
+}
+
+// The first byte that names a table that is absent, of that many, or already named; the end where a table is not named.
+pub fn first_misnamed(code: &[u8], tables: usize) -> Found
+    requires { ⌜ tables ≤ 16 ⌝ }
+    ensures { λ r. ⌜ r ≡ foundOf (misnamed tables [] 0 (now (code .entry))) ⌝ }
+{
+    let mut named = [false; 16];
+    let mut count = 0;
+    let mut i = 0;
+    while i < code.len() {
+        let b = wide(code[i]);
+        if b != 255 {
+            if tables <= b {
+                return Found::At(i);
+            }
+            if named[b] {
+                return Found::At(i);
+            }
+            named[b] = true;
+            count += 1;
+        }
+        i += 1;
+    }
+    if count == tables {
+        Found::Nothing
+    } else {
+        Found::At(i)
+    }
+}

@@ -1,0 +1,32 @@
+-- The catalog of a list of tables: empty, and with one table more.
+use mathlib.Core.Path.{_≡_, refl}
+use mathlib.Core.List.{List, [], _∷_, _++_}
+use Prim.Native.Nat.{ℕ, _+_, _<_}
+use lib.ListN.{length, set, replicate, length-append}
+use Rattle.semantics.specs.Files.{Table}
+use Rattle.words.proofs.Arrays.{padded-field}
+use Rattle.tables.specs.declared.Catalog.{Catalog}
+use Rattle.tables.specs.Catalogs.{catalogOf}
+
+pub catalog-empty : record { count = 0; masks = replicate 16 0; rows = replicate 16 0; starts = replicate 16 0 } ≡ catalogOf []
+unfolding catalogOf
+catalog-empty = refl
+
+pub catalog-count : (ts : List Table) → (catalogOf ts) .count ≡ length ts
+unfolding catalogOf
+catalog-count ts = refl
+
+-- the catalog c with a table stored at its first free places
+abbrev pub stored : Catalog → Table → Catalog
+stored c t = record { count = c .count + 1; masks = set (c .masks) (c .count) (t .mask); rows = set (c .rows) (c .count) (t .rows); starts = set (c .starts) (c .count) (t .start) }
+
+pub catalog-more : (ts : List Table) (t : Table) → length ts < 16 → stored (catalogOf ts) t ≡ catalogOf (ts ++ (t ∷ []))
+unfolding catalogOf
+catalog-more ts t h =
+    let n : length ts + 1 ≡ length (ts ++ (t ∷ [])) = simp length-append in
+    λ i. record {
+      count = n i;
+      masks = padded-field (λ t. t .mask) ts t h i;
+      rows = padded-field (λ t. t .rows) ts t h i;
+      starts = padded-field (λ t. t .start) ts t h i;
+    }

@@ -1,0 +1,29 @@
+-- The columns of a table that fits a file lie inside the file.
+use mathlib.Core.Path.{_≡_}
+use Prim.Native.Nat.{ℕ, zero, suc, _+_, _*_, _-_, _≤_, _<_}
+use native.Mathlib.Nat.{mul-le-mul, le-refl, add-zero}
+use native.Mathlib.Omega.{arith}
+use Rattle.semantics.specs.Lists.{sum, from, upTo}
+use Rattle.semantics.specs.Files.{bit, onesBelow, arity, columnBytes, columnStart, Fitting}
+use Rattle.semantics.proofs.Numbers.{sum-last}
+use Rattle.tables.specs.Catalogs.{tableWith}
+
+sum-longer : (f : ℕ → ℕ) (n k : ℕ) → sum f (from 0 n) ≤ sum f (from 0 (n + k))
+sum-longer f n zero = rw (add-zero n) (le-refl _)
+sum-longer f n (suc k) = let e : n + suc k ≡ suc (n + k) = omega arith in rw e (omega (arith, sum-longer f n k, sum-last f (n + k)))
+
+pub ones-few : (m a : ℕ) → a < 32 → onesBelow m a ≤ arity m
+unfolding arity onesBelow upTo
+ones-few m a h = let e : a + (32 - a) ≡ 32 = omega arith in rw e at (sum-longer (bit m) a (32 - a))
+
+-- the k columns before a column
+pub column-inside : (size m n start a k : ℕ) → (a < 32) × Fitting size (tableWith m n start) → k ≡ onesBelow m a → start + 4 * (k * n) ≤ size
+unfolding columnBytes
+column-inside size m n start a k (h, f) e =
+    let fewer : k ≤ arity m = omega (arith, ones-few m a h) in
+    let shorter : k * n ≤ arity m * n = mul-le-mul {n₁ = k} {m₁ = n} {n₂ = arity m} {m₂ = n} fewer (le-refl n) in
+    omega (arith, f .inside)
+
+pub column-place : (m n start a k : ℕ) → k ≡ onesBelow m a → start + 4 * (k * n) ≡ columnStart (tableWith m n start) a
+unfolding columnStart
+column-place m n start a k e = rw e

@@ -1,0 +1,44 @@
+-- What the code gives for what `semantics` defines: the catalog of tables, the end of a reading, one record.
+use mathlib.Core.Bool.{true, false}
+use mathlib.Core.List.{List, map}
+use Prim.Native.Nat.{ℕ, _-_}
+use lib.ListN.{length}
+use lib.Dec.{leb}
+use Rattle.semantics.specs.Files.{Table, cutMark, tableMark, planMark, otherMark, nextMark, TableRecord, broken, whole, nextTable, Ending, fault, planBytes, planRecord, read}
+use Rattle.words.specs.Arrays.{padded}
+use Rattle.tables.specs.declared.Catalog.{Catalog}
+use Rattle.tables.specs.declared.Contents.{Contents}
+use Rattle.tables.specs.declared.End.{End}
+use Rattle.tables.specs.declared.End.the-variants as end
+use Rattle.tables.specs.declared.Record.{Record}
+use Rattle.tables.specs.declared.Record.the-variants as kind
+
+unfoldable pub catalogOf : List Table → Catalog
+catalogOf ts =
+    record { count = length ts; masks = padded (map (λ t. t .mask) ts); rows = padded (map (λ t. t .rows) ts); starts = padded (map (λ t. t .start) ts) }
+
+-- the plan's bytes are the last ones of a file of that many bytes
+abbrev pub endOf : ℕ → Ending → End
+endOf size (fault n d) = end.Fault n d
+endOf size (planBytes code) = end.Plan (size - length code)
+
+abbrev pub tableOf : ℕ → TableRecord → Record
+tableOf o (broken n) = kind.Last (end.Fault n o)
+tableOf o (whole t size) = kind.Table (t .mask) (t .rows) size
+
+-- the record at offset o of a file of that many bytes, where the bytes l stand and n tables came before
+unfoldable pub recordOf : ℕ → ℕ → ℕ → List ℕ → Record
+recordOf n size o l =
+    elim (nextMark l) [
+      | cutMark ↦ kind.Last (end.Fault 1 o)
+      | otherMark ↦ kind.Last (end.Fault 2 o)
+      | tableMark ↦
+          elim (leb 16 n) [ true ↦ kind.Last (end.Fault 5 o) | false ↦ tableOf o (nextTable o l) ]
+      | planMark ↦ kind.Last (endOf size (planRecord o l))
+    ]
+
+unfoldable pub contentsOf : List ℕ → Contents
+contentsOf bytes = record { catalog = catalogOf ((read bytes) .tables); end = endOf (length bytes) ((read bytes) .ending) }
+
+abbrev pub tableWith : ℕ → ℕ → ℕ → Table
+tableWith mask rows start = record { mask = mask; rows = rows; start = start }

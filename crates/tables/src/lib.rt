@@ -1,0 +1,165 @@
+// The records of a file, read one after the other into a catalog: answers 1 to 6. Only `value` reads an attribute value.
+ghost use mathlib.Core.Path.{_≡_};
+ghost use mathlib.Core.Bool.{_&&_};
+ghost use Prim.Native.Nat.{_+_, _*_, _-_, _<_, _≤_, _^_};
+ghost use lib.ListN.{length, drop, getD};
+ghost use lib.Dec.{eqb};
+ghost use Rattle.semantics.specs.Files.{wordAt, columnStart, Fitting, nextTable, planRecord};
+ghost use Rattle.tables.specs.Catalogs.{endOf, tableOf, recordOf, contentsOf, tableWith};
+
+// The tables of a file, in file order. The places past the last table are 0.
+pub struct Catalog {
+    pub count: usize,
+    pub masks: [u32; 16],
+    pub rows: [usize; 16],
+    pub starts: [usize; 16],
+}
+
+// How the reading ends: a fault with its number and detail, or the plan, whose bytes run from this offset to the file's end.
+pub enum End {
+    Fault(u32, usize),
+    Plan(usize),
+}
+
+// What the reading of a file gives.
+pub struct Contents {
+    pub catalog: Catalog,
+    pub end: End,
+}
+
+// One record: the reading ends there, or it is a table, with the bytes of its record.
+pub enum Record {
+    Last(End),
+    Table { mask: u32, rows: usize, size: usize },
+}
+
+fn wide(x: u8) -> usize
+    ensures { λ r. ⌜ (r ≡ x) × (r < 256) ⌝ }
+{
+    x as usize
+}
+
+// The two bytes at an offset are those of the mark.
+fn marked(s: &[u8], at: usize, mark: &[u8; 2]) -> bool
+    requires { ⌜ at + 2 ≤ length (now s) ⌝ }
+    ensures { λ r. ⌜ r ≡ (eqb (getD (now (s .entry)) at 0) (getD (now (mark .entry)) 0 0) && eqb (getD (now (s .entry)) (at + 1) 0) (getD (now (mark .entry)) 1 0)) ⌝ }
+{
+    s[at] == mark[0] && s[at + 1] == mark[1]
+}
+
+// The plan record whose mark stands at an offset: 1, then 6.
+fn plan_record(file: &[u8], at: usize) -> End
+    requires { ⌜ at + 2 ≤ length (now file) ⌝ }
+    ensures { λ r. ⌜ r ≡ endOf (length (now (file .entry))) (planRecord at (drop at (now (file .entry)))) ⌝ }
+{
+    let left = file.len() - at;
+    if left < 3 {
+        return End::Fault(1, at);
+    }
+    let n = wide(file[at + 2]);
+    if left < 3 + n {
+        return End::Fault(1, at);
+    }
+    if 3 + n < left {
+        return End::Fault(6, at + (3 + n));
+    }
+    End::Plan(at + 3)
+}
+
+// The table record whose mark stands at an offset: both fields there (1), 3, 4, columns there (1).
+fn table_record(file: &[u8], at: usize) -> Record
+    requires { ⌜ at + 2 ≤ length (now file) ⌝ }
+    ensures { λ r. ⌜ r ≡ tableOf at (nextTable at (drop at (now (file .entry)))) ⌝ }
+{
+    let left = file.len() - at;
+    if left < 10 {
+        return Record::Last(End::Fault(1, at));
+    }
+    let mask = words::word(file, at + 2);
+    let rows = words::word(file, at + 6) as usize;
+    let arity = words::ones(mask) as usize;
+    if arity == 0 || 8 < arity {
+        return Record::Last(End::Fault(3, at));
+    }
+    if 4096 < rows {
+        return Record::Last(End::Fault(4, at));
+    }
+    let size = 10 + 4 * (arity * rows);
+    if left < size {
+        return Record::Last(End::Fault(1, at));
+    }
+    Record::Table { mask, rows, size }
+}
+
+// The record at an offset, after that many tables: two bytes left (1), mark (2), 17th (5), then the record's own rules.
+pub fn next_record(file: &[u8], at: usize, count: usize) -> Record
+    requires { ⌜ at ≤ length (now file) ⌝ }
+    ensures { λ r. ⌜ r ≡ recordOf count (length (now (file .entry))) at (drop at (now (file .entry))) ⌝ }
+{
+    if file.len() - at < 2 {
+        return Record::Last(End::Fault(1, at));
+    }
+    if marked(file, at, b"TB") {
+        if 16 <= count {
+            return Record::Last(End::Fault(5, at));
+        }
+        return table_record(file, at);
+    }
+    if marked(file, at, b"PL") {
+        return Record::Last(plan_record(file, at));
+    }
+    Record::Last(End::Fault(2, at))
+}
+
+// The tables and the end of a file.
+pub fn read(file: &[u8]) -> Contents
+    ensures { λ r. ⌜ r ≡ contentsOf (now (file .entry)) ⌝ }
+{
+    let mut catalog = Catalog {
+        count: 0,
+        masks: [0u32; 16],
+        rows: [0usize; 16],
+        starts: [0usize; 16],
+    };
+    let mut at = 0;
+    loop {
+        let n = catalog.count;
+        let record = next_record(file, at, n);
+        match record {
+            Record::Last(end) => {
+                return Contents { catalog, end };
+            }
+            Record::Table { mask, rows, size } => {
+                catalog.masks[n] = mask;
+                catalog.rows[n] = rows;
+                catalog.starts[n] = at + 10;
+                catalog.count = n + 1;
+                at += size;
+            }
+        }
+    }
+}
+
+// The offset of an attribute's column in the file.
+pub fn column_start(file: &[u8], mask: u32, rows: usize, start: usize, attribute: u32) -> usize
+    requires { ⌜ (attribute < 32) × Fitting (length (now file)) (tableWith mask rows start) ⌝ }
+    ensures { λ r. ⌜ r ≡ columnStart (tableWith mask rows start) attribute ⌝ }
+{
+    start + 4 * (words::ones_below(mask, attribute) as usize * rows)
+}
+
+// The column at an offset: the part of the file that starts there.
+pub fn column(file: &[u8], at: usize) -> &[u8]
+    requires { ⌜ at ≤ length (now file) ⌝ }
+    ensures { λ r. ⌜ now r ≡ drop at (now (file .entry)) ⌝ }
+{
+    &file[at..]
+}
+
+// The value of a row in a column. No other function of the library reads an attribute value.
+pub fn value(column: &[u8], row: usize) -> u32
+    requires { ⌜ 4 * row + 4 ≤ length (now column) ⌝ }
+    ensures { λ r. ⌜ r ≡ wordAt (now (column .entry)) (4 * row) ⌝ }
+{
+    words::word(column, 4 * row)
+}
