@@ -77,8 +77,7 @@ stands (join l r) h s before after at e q a b =
     let m : ℕ = at + 1 + length (encode l) in
     let one : length (before ++ (255 ∷ [])) ≡ length before + 1 = length-append before (255 ∷ []) in
     let two : length (before ++ (255 ∷ encode l)) ≡ length before + suc (length (encode l)) = length-append before (255 ∷ encode l) in
-    let three : length (encode l ++ encode r) ≡ length (encode l) + length (encode r) = length-append (encode l) (encode r) in
-    (
+    let three : length (encode l ++ encode r) ≡ length (encode l) + length (encode r) = length-append (encode l) (encode r) in (
       omega arith,
       rw (q, a) (getD-append-seam before 255 ((encode l ++ encode r) ++ after) 0),
       (

@@ -70,8 +70,7 @@ module _ (c : Catalog) (code : List ℕ) (ts : List Table) (h : Tabled c ts) (a 
 
     pub countable : (getD (s .order) 0 0 < 16) × (s .used + 8 * getD (c .rows) (getD (s .order) 0 0) 0 ≤ 4294967296) × (length (s .order) ≡ 16)
     countable =
-        let lo : leftmost (planOf code) < 16 = leftmost-small (planOf code) (within .small) in
-        (
+        let lo : leftmost (planOf code) < 16 = leftmost-small (planOf code) (within .small) in (
           omega (arith, first-is),
           omega (arith, first-rows, used-is, counts (leftmost (planOf code)) lo, storage-le (c .rows) counts (planOf code) (within .small), joins-tables (planOf code), few),
           order-length,

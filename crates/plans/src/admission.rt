@@ -8,9 +8,14 @@ ghost use Rattle.semantics.specs.Outcome.{planVerdict, scratchVerdict};
 ghost use Rattle.plans.specs.Admissions.{Tabled, Catalogued, Admits, Accepted, verdictOf, planAdmission, admissionOf};
 use crate::behaviour::first_ill_behaved;
 use crate::naming::first_misnamed;
-use crate::schedule::{no_schedule, schedule_of, words_needed, Schedule};
-use crate::spelling::{first_misplaced, Found};
-use tables::{Catalog, End};
+use crate::schedule::Schedule;
+use crate::schedule::no_schedule;
+use crate::schedule::schedule_of;
+use crate::schedule::words_needed;
+use crate::spelling::Found;
+use crate::spelling::first_misplaced;
+use tables::Catalog;
+use tables::End;
 
 // Refused with a number and its detail, or admitted.
 pub enum Verdict {

@@ -21,16 +21,23 @@ pub fn first_misnamed(code: &[u8], tables: usize) -> Found
     let mut count = 0;
     let mut i = 0;
     while i < code.len() {
-        let b = wide(code[i]);
-        if b != 255 {
-            if tables <= b {
+        let b = code[i];
+        match b {
+            0..=15 => {
+                let t = wide(b);
+                if tables <= t {
+                    return Found::At(i);
+                }
+                if named[t] {
+                    return Found::At(i);
+                }
+                named[t] = true;
+                count += 1;
+            }
+            255 => {}
+            _ => {
                 return Found::At(i);
             }
-            if named[b] {
-                return Found::At(i);
-            }
-            named[b] = true;
-            count += 1;
         }
         i += 1;
     }

@@ -5,49 +5,34 @@ use Rattle.plans.proofs.Verdicts.{catalogued, file-refused, plan-inside
 use borrow.Author.Needs.{needs}
 use Rattle.plans.proofs.admission.admit.Statement.{statement}
 use Rattle.plans.proofs.admission.admit.Tie as tie
-use Rattle.plans.proofs.admission.admit.Reads as reads
-use Rattle.plans.proofs.admission.admit.Lts as lts
-use Rattle.plans.proofs.admission.admit_plan.Reads as admit-plan-reads
-use Rattle.plans.proofs.schedule.no_schedule.Reads as no-schedule-reads
-use Rattle.tables.proofs.read.Reads as read-reads
 
--- src/admission.rt:93:9
 read-requires : tie.Need-read-requires
 read-requires c κs = search needs
 
--- src/admission.rt:97:20
 enum-known-end : tie.Need-enum-known-end
 enum-known-end c = search needs
 
--- src/admission.rt:100:23
 no-schedule-requires : tie.Need-no-schedule-requires
 no-schedule-requires c κs = search needs
 
--- src/admission.rt:102:19
 enum-known-end-2 : tie.Need-enum-known-end-2
 enum-known-end-2 c = search needs
 
--- src/admission.rt:102:37
 sub-admit-plan : tie.Need-sub-admit-plan
 sub-admit-plan c = plan-inside _ _ (c .before .before .before .before .read .ensures) _ (c .before .end2 .given .1)
 
--- src/admission.rt:102:37
 part-admit-plan-start : tie.Need-part-admit-plan-start
 part-admit-plan-start c = plan-inside _ _ (c .before .before .before .before .read .ensures) _ (c .before .end2 .given .1)
 
--- src/admission.rt:102:37
 part-admit-plan-end : tie.Need-part-admit-plan-end
 part-admit-plan-end c = search needs
 
--- src/admission.rt:102:26
 admit-plan-requires : tie.Need-admit-plan-requires
 admit-plan-requires c κs = catalogued _ _ (c .before .before .before .before .before .read .ensures) (bytes-of (c .before .before .before .before .before .before .before .args .file .now) (λ i. omega (arith, c .before .before .before .before .before .before .shared-slice-known .given i)))
 
--- src/admission.rt:90:1
 returns : tie.Need-returns
 returns c = file-refused _ _ (c .before .before .before .before .before .read .ensures) _ _ _ (c .before .before .end .given .1) _ (c .no-schedule .ensures)
 
--- src/admission.rt:90:1
 returns-2 : tie.Need-returns-2
 returns-2 c = let file = c .before .before .before .before .before .before .before .before .args .file .now in
     file-planned file _ (c .before .before .before .before .before .before .read .ensures) (bytes-of file (λ i. omega (arith, c .before .before .before .before .before .before .before .shared-slice-known .given i))) _ _ (c .before .before .before .end2 .given .1) _

@@ -2,37 +2,25 @@ use Rattle.plans.proofs.Scratch.{admits, accepted, plan-refused}
 use borrow.Author.Needs.{needs}
 use Rattle.plans.proofs.admission.admit_plan.Statement.{statement}
 use Rattle.plans.proofs.admission.admit_plan.Tie as tie
-use Rattle.plans.proofs.admission.admit_plan.Reads as reads
-use Rattle.plans.proofs.admission.admit_plan.Lts as lts
-use Rattle.plans.proofs.admission.plan_verdict.Reads as plan-verdict-reads
-use Rattle.plans.proofs.admission.with_scratch.Reads as with-scratch-reads
-use Rattle.plans.proofs.schedule.no_schedule.Reads as no-schedule-reads
 
--- src/admission.rt:78:9
 plan-verdict-requires : tie.Need-plan-verdict-requires
 plan-verdict-requires c κs = search needs
 
--- src/admission.rt:80:26
 enum-known-verdict : tie.Need-enum-known-verdict
 enum-known-verdict c = search needs
 
--- src/admission.rt:83:23
 no-schedule-requires : tie.Need-no-schedule-requires
 no-schedule-requires c κs = search needs
 
--- src/admission.rt:85:30
 enum-told : tie.Need-enum-told
 enum-told c = search needs
 
--- src/admission.rt:85:30
 with-scratch-requires : tie.Need-with-scratch-requires
 with-scratch-requires c κs = accepted _ _ _ (c .before .before .plan-verdict .ensures) (c .enum-told .given .1) (c .before .before .before .before .pre)
 
--- src/admission.rt:74:1
 returns : tie.Need-returns
 returns c = plan-refused _ _ _ (c .before .before .before .before .plan-verdict .ensures) _ _ _ (c .before .before .verdict .given .1) _ (c .no-schedule .ensures)
 
--- src/admission.rt:74:1
 returns-2 : tie.Need-returns-2
 returns-2 c = λ ts h. c .with-scratch .ensures ts h (admits _ _ _ (c .before .before .before .plan-verdict .ensures) (c .before .enum-told .given .1) ts h)
 

@@ -2,29 +2,19 @@ use Rattle.plans.proofs.Scratch.{plannable, countable, scratch-short, s
 use borrow.Author.Needs.{needs}
 use Rattle.plans.proofs.admission.with_scratch.Statement.{statement}
 use Rattle.plans.proofs.admission.with_scratch.Tie as tie
-use Rattle.plans.proofs.admission.with_scratch.Reads as reads
-use Rattle.plans.proofs.admission.with_scratch.Lts as lts
-use Rattle.plans.proofs.schedule.no_schedule.Reads as no-schedule-reads
-use Rattle.plans.proofs.schedule.schedule_of.Reads as schedule-of-reads
-use Rattle.plans.proofs.schedule.words_needed.Reads as words-needed-reads
 
--- src/admission.rt:57:9
 schedule-of-requires : tie.Need-schedule-of-requires
 schedule-of-requires c κs = let q = c .before .before .before .before .before .pre in plannable _ _ (q .ts) (q .tabled) (q .admits)
 
--- src/admission.rt:58:9
 words-needed-requires : tie.Need-words-needed-requires
 words-needed-requires c κs = let q = c .before .before .before .before .before .before .before .pre in countable _ _ (q .ts) (q .tabled) (q .admits) _ (c .before .schedule-of .ensures)
 
--- src/admission.rt:63:23
 no-schedule-requires : tie.Need-no-schedule-requires
 no-schedule-requires c κs = search needs
 
--- src/admission.rt:60:9
 returns : tie.Need-returns
 returns c = λ ts h a. scratch-short _ _ ts h a _ (c .before .before .before .before .schedule-of .ensures) _ _ (c .before .before .words-needed .ensures) (c .before .if1 .taken) _ (c .no-schedule .ensures)
 
--- src/admission.rt:51:1
 returns-2 : tie.Need-returns-2
 returns-2 c = λ ts h a. scratch-enough _ _ ts h a _ (c .before .before .before .schedule-of .ensures) _ _ (c .before .words-needed .ensures) (c .if1 .left)
 

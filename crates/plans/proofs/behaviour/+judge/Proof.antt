@@ -1,6 +1,5 @@
 use Prim.Native.Nat.{_-_}
 use lib.ListN.{length}
-use mathlib.Core.Path.{refl, sym, ap, _∙_}
 use borrow.Author.Needs.{needs}
 use native.Mathlib.Omega.{arith}
 use Rattle.plans.proofs.Places.{starts, table, left, right, left-ends}
@@ -25,7 +24,6 @@ judge-at t = and 2 judge-kinds.ps (is 2 judge-kinds.ps μ-judge t) judge.Pre
 abbrev judge-below : ℕ → In 2 judge-kinds.ps
 judge-below t = and 2 judge-kinds.ps (falls 2 judge-kinds.ps _<_ μ-judge t) judge.Pre
 
--- src/behaviour.rt:57:13
 judge-shared-slice-read-b : (t : ℕ) → judge-lts.Need-shared-slice-read-b (
   judge-below t,
   judge.Post,
@@ -36,7 +34,6 @@ judge-shared-slice-read-b : (t : ℕ) → judge-lts.Need-shared-slice-read-b (
 ) (judge-at t) judge.Post
 judge-shared-slice-read-b t c = starts _ _ (c .before .before .pre .1)
 
--- src/behaviour.rt:60:43
 judge-add-judge : (t : ℕ) → judge-lts.Need-add-judge (
   judge-below t,
   judge.Post,
@@ -47,7 +44,6 @@ judge-add-judge : (t : ℕ) → judge-lts.Need-add-judge (
 ) (judge-at t) judge.Post
 judge-add-judge t c = omega (arith, starts _ _ (c .before .before .before .pre .1))
 
--- src/behaviour.rt:60:17
 judge-judge-requires : (t : ℕ) → judge-lts.Need-judge-requires (
   judge-below t,
   judge.Post,
@@ -58,7 +54,6 @@ judge-judge-requires : (t : ℕ) → judge-lts.Need-judge-requires (
 ) (judge-at t) judge.Post
 judge-judge-requires t c κs = let q = c .before .before .before .pre .1 in (omega (arith, starts _ _ q), left _ _ (c .match .keys1) q)
 
--- src/behaviour.rt:62:17
 judge-judge-requires-2 : (t : ℕ) → judge-lts.Need-judge-requires-2 (
   judge-below t,
   judge.Post,
@@ -73,7 +68,6 @@ judge-judge-requires-2 t c κs = let q = c .before .before .before .before .pre 
       right _ _ _ k (λ p e h. (c .judge .ensures p e h) .next) q,
     )
 
--- src/behaviour.rt:65:53
 judge-mul-broken-at : (t : ℕ) → judge-lts.Need-mul-broken-at (
   judge-below t,
   judge.Post,
@@ -84,7 +78,6 @@ judge-mul-broken-at : (t : ℕ) → judge-lts.Need-mul-broken-at (
 ) (judge-at t) judge.Post
 judge-mul-broken-at t c = omega (arith, left-index _ _ _ (c .before .before .match .keys1) _ (c .before .judge .ensures) (c .before .before .before .before .before .pre .1))
 
--- src/behaviour.rt:65:53
 judge-element-copy-out-broken-at : (t : ℕ) → judge-lts.Need-element-copy-out-broken-at (
   judge-below t,
   judge.Post,
@@ -95,7 +88,6 @@ judge-element-copy-out-broken-at : (t : ℕ) → judge-lts.Need-element-copy-out
 ) (judge-at t) judge.Post
 judge-element-copy-out-broken-at t c = omega (arith, left-index _ _ _ (c .before .before .match .keys1) _ (c .before .judge .ensures) (c .before .before .before .before .before .pre .1))
 
--- src/behaviour.rt:65:63
 judge-mul-broken-at-2 : (t : ℕ) → judge-lts.Need-mul-broken-at-2 (
   judge-below t,
   judge.Post,
@@ -106,7 +98,6 @@ judge-mul-broken-at-2 : (t : ℕ) → judge-lts.Need-mul-broken-at-2 (
 ) (judge-at t) judge.Post
 judge-mul-broken-at-2 t c = omega (arith, right-index _ _ _ (c .before .before .before .match .keys1) _ (c .before .before .judge .ensures) (c .before .before .before .before .before .before .pre .1) _ (c .before .judge2 .ensures))
 
--- src/behaviour.rt:65:63
 judge-element-copy-out-broken-at-2 : (t : ℕ) → judge-lts.Need-element-copy-out-broken-at-2 (
   judge-below t,
   judge.Post,
@@ -117,7 +108,6 @@ judge-element-copy-out-broken-at-2 : (t : ℕ) → judge-lts.Need-element-copy-o
 ) (judge-at t) judge.Post
 judge-element-copy-out-broken-at-2 t c = omega (arith, right-index _ _ _ (c .before .before .before .match .keys1) _ (c .before .before .judge .ensures) (c .before .before .before .before .before .before .pre .1) _ (c .before .judge2 .ensures))
 
--- src/behaviour.rt:65:17
 judge-broken-at-requires : (t : ℕ) → judge-lts.Need-broken-at-requires (
   judge-below t,
   judge.Post,
@@ -128,7 +118,6 @@ judge-broken-at-requires : (t : ℕ) → judge-lts.Need-broken-at-requires (
 ) (judge-at t) judge.Post
 judge-broken-at-requires t c κs = search needs
 
--- src/behaviour.rt:74:17
 judge-wide-requires : (t : ℕ) → judge-lts.Need-wide-requires (
   judge-below t,
   judge.Post,
@@ -139,7 +128,6 @@ judge-wide-requires : (t : ℕ) → judge-lts.Need-wide-requires (
 ) (judge-at t) judge.Post
 judge-wide-requires t c κs = search needs
 
--- src/behaviour.rt:76:29
 judge-mul-t23 : (t : ℕ) → judge-lts.Need-mul-t23 (
   judge-below t,
   judge.Post,
@@ -150,7 +138,6 @@ judge-mul-t23 : (t : ℕ) → judge-lts.Need-mul-t23 (
 ) (judge-at t) judge.Post
 judge-mul-t23 t c = omega (arith, c .wide .ensures .0, table _ _ (c .before .match .rest .1) (c .before .before .before .before .pre .1))
 
--- src/behaviour.rt:76:29
 judge-element-copy-out-t26 : (t : ℕ) → judge-lts.Need-element-copy-out-t26 (
   judge-below t,
   judge.Post,
@@ -161,7 +148,6 @@ judge-element-copy-out-t26 : (t : ℕ) → judge-lts.Need-element-copy-out-t26 (
 ) (judge-at t) judge.Post
 judge-element-copy-out-t26 t c = omega (arith, c .wide .ensures .0, table _ _ (c .before .match .rest .1) (c .before .before .before .before .pre .1))
 
--- src/behaviour.rt:78:23
 judge-add-t27 : (t : ℕ) → judge-lts.Need-add-t27 (
   judge-below t,
   judge.Post,
@@ -172,7 +158,6 @@ judge-add-t27 : (t : ℕ) → judge-lts.Need-add-t27 (
 ) (judge-at t) judge.Post
 judge-add-t27 t c = omega (arith, starts _ _ (c .before .before .before .before .before .pre .1))
 
--- src/behaviour.rt:53:1
 judge-returns : (t : ℕ) → judge-lts.Need-returns (
   judge-below t,
   judge.Post,
@@ -185,7 +170,6 @@ judge-returns t c = λ p e h.
     rw (c .before .before .broken-at .ensures)
     (two-plans _ _ _ (c .before .before .before .before .before .before .before .match .keys1) _ _ (c .before .before .before .before .before .before .judge .ensures) (c .before .before .before .before .before .judge2 .ensures) p e h)
 
--- src/behaviour.rt:53:1
 judge-returns-2 : (t : ℕ) → judge-lts.Need-returns-2 (
   judge-below t,
   judge.Post,

@@ -1,22 +1,15 @@
 use mathlib.Core.Path.{sym, _∙_}
 use Rattle.plans.proofs.Judging.{broken-inside, broken-here}
-use borrow.Author.Tests.{eq-eqb, ne-eqb}
 use borrow.Author.Needs.{needs}
 use Rattle.plans.proofs.behaviour.broken_at.Statement.{statement}
 use Rattle.plans.proofs.behaviour.broken_at.Tie as tie
-use Rattle.plans.proofs.behaviour.broken_at.Reads as reads
-use Rattle.plans.proofs.behaviour.broken_at.Lts as lts
-use Rattle.plans.proofs.behaviour.or_else.Reads as or-else-reads
 
--- src/behaviour.rt:46:9
 or-else-requires : tie.Need-or-else-requires
 or-else-requires c κs = search needs
 
--- src/behaviour.rt:39:1
 returns : tie.Need-returns
 returns c = c .or-else .ensures ∙ sym (broken-inside _ _ _ _ _ _ _ (c .before .if1 .taken))
 
--- src/behaviour.rt:39:1
 returns-2 : tie.Need-returns-2
 returns-2 c = sym (broken-here _ _ _ _ _ _ _ (c .if1 .left))
 

@@ -1,15 +1,10 @@
 use borrow.Author.Needs.{needs}
 use Rattle.plans.proofs.behaviour.first_ill_behaved.Statement.{statement}
 use Rattle.plans.proofs.behaviour.first_ill_behaved.Tie as tie
-use Rattle.plans.proofs.behaviour.first_ill_behaved.Reads as reads
-use Rattle.plans.proofs.behaviour.first_ill_behaved.Lts as lts
-use Rattle.plans.proofs.behaviour.judge.Reads as judge-reads
 
--- src/behaviour.rt:90:9
 judge-requires : tie.Need-judge-requires
 judge-requires c κs = search needs
 
--- src/behaviour.rt:86:1
 returns : tie.Need-returns
 returns c = λ S M p h. ((c .judge .ensures p _ h) .rules S M) .broken
 

@@ -22,61 +22,52 @@ abbrev read-plan-below : ℕ → In 1 read-plan-kinds.ps
 read-plan-below t =
     and 1 read-plan-kinds.ps (falls 1 read-plan-kinds.ps _<_ μ-read-plan t) read-plan.Pre
 
--- src/spelling.rt:25:9
 read-plan-returns :
     (t : ℕ) →
     read-plan-lts.Need-returns (read-plan-below t, read-plan.Post) (read-plan-at t) read-plan.Post
 read-plan-returns t c = read-past _ _ (c .if1 .taken)
 
--- src/spelling.rt:27:13
 read-plan-shared-slice-read-b : (t : ℕ) → read-plan-lts.Need-shared-slice-read-b (
   read-plan-below t,
   read-plan.Post,
 ) (read-plan-at t) read-plan.Post
 read-plan-shared-slice-read-b t c = search needs
 
--- src/spelling.rt:31:40
 read-plan-add-read-plan : (t : ℕ) → read-plan-lts.Need-add-read-plan (
   read-plan-below t,
   read-plan.Post,
 ) (read-plan-at t) read-plan.Post
 read-plan-add-read-plan t c = search needs
 
--- src/spelling.rt:31:17
 read-plan-read-plan-requires : (t : ℕ) → read-plan-lts.Need-read-plan-requires (
   read-plan-below t,
   read-plan.Post,
 ) (read-plan-at t) read-plan.Post
 read-plan-read-plan-requires t c κs = (omega arith, tt)
 
--- src/spelling.rt:33:30
 read-plan-enum-known-left : (t : ℕ) → read-plan-lts.Need-enum-known-left (
   read-plan-below t,
   read-plan.Post,
 ) (read-plan-at t) read-plan.Post
 read-plan-enum-known-left t c = search needs
 
--- src/spelling.rt:33:41
 read-plan-read-plan-requires-2 : (t : ℕ) → read-plan-lts.Need-read-plan-requires-2 (
   read-plan-below t,
   read-plan.Post,
 ) (read-plan-at t) read-plan.Post
 read-plan-read-plan-requires-2 t c κs = let l = c .before .before .before .read-plan .ensures .later _ (c .before .left .given .1) in (omega arith, tt)
 
--- src/spelling.rt:34:30
 read-plan-enum-known-left-2 : (t : ℕ) → read-plan-lts.Need-enum-known-left-2 (
   read-plan-below t,
   read-plan.Post,
 ) (read-plan-at t) read-plan.Post
 read-plan-enum-known-left-2 t c = search needs
 
--- src/spelling.rt:29:32
 read-plan-add-t15 :
     (t : ℕ) →
     read-plan-lts.Need-add-t15 (read-plan-below t, read-plan.Post) (read-plan-at t) read-plan.Post
 read-plan-add-t15 t c = search needs
 
--- src/spelling.rt:21:1
 read-plan-returns-2 :
     (t : ℕ) →
     read-plan-lts.Need-returns-2
@@ -85,7 +76,6 @@ read-plan-returns-2 :
     read-plan.Post
 read-plan-returns-2 t c = read-join _ _ (c .before .before .before .before .before .before .before .if1 .left) (c .before .before .before .before .before .match .keys1) _ (c .before .before .before .before .read-plan .ensures) _ (c .before .before .left .given .1) _ (c .read-plan2 .ensures)
 
--- src/spelling.rt:21:1
 read-plan-returns-3 :
     (t : ℕ) →
     read-plan-lts.Need-returns-3
@@ -94,7 +84,6 @@ read-plan-returns-3 :
     read-plan.Post
 read-plan-returns-3 t c = read-join-bad _ _ (c .before .before .before .before .before .before .if1 .left) (c .before .before .before .before .match .keys1) _ (c .before .before .before .read-plan .ensures) _ (c .before .left2 .given .1)
 
--- src/spelling.rt:21:1
 read-plan-returns-4 :
     (t : ℕ) →
     read-plan-lts.Need-returns-4
@@ -103,7 +92,6 @@ read-plan-returns-4 :
     read-plan.Post
 read-plan-returns-4 t c = read-table _ _ (c .before .before .before .if1 .left) (c .if2 .taken)
 
--- src/spelling.rt:21:1
 read-plan-returns-5 :
     (t : ℕ) →
     read-plan-lts.Need-returns-5

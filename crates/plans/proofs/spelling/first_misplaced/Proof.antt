@@ -3,31 +3,22 @@ use Rattle.plans.proofs.Reading.{whole-more, whole-done, whole-bad}
 use borrow.Author.Needs.{needs}
 use Rattle.plans.proofs.spelling.first_misplaced.Statement.{statement}
 use Rattle.plans.proofs.spelling.first_misplaced.Tie as tie
-use Rattle.plans.proofs.spelling.first_misplaced.Reads as reads
-use Rattle.plans.proofs.spelling.first_misplaced.Lts as lts
-use Rattle.plans.proofs.spelling.read_plan.Reads as read-plan-reads
 
--- src/spelling.rt:45:9
 read-plan-requires : tie.Need-read-plan-requires
 read-plan-requires c κs = search needs
 
--- src/spelling.rt:47:22
 enum-known-end : tie.Need-enum-known-end
 enum-known-end c = search needs
 
--- src/spelling.rt:54:22
 enum-known-end-2 : tie.Need-enum-known-end-2
 enum-known-end-2 c = search needs
 
--- src/spelling.rt:42:1
 returns : tie.Need-returns
 returns c = sym (whole-more _ _ (c .before .before .before .before .read-plan .ensures) _ (c .before .before .end .given .1) (c .if1 .taken))
 
--- src/spelling.rt:42:1
 returns-2 : tie.Need-returns-2
 returns-2 c = sym (whole-done _ _ (c .before .before .before .before .read-plan .ensures) _ (c .before .before .end .given .1) (c .if1 .left))
 
--- src/spelling.rt:42:1
 returns-3 : tie.Need-returns-3
 returns-3 c = sym (whole-bad _ _ (c .before .before .before .read-plan .ensures) _ (c .before .end2 .given .1))
 
