@@ -18,12 +18,6 @@ pub struct Subplan {
     pub broken: Found,
 }
 
-fn wide(x: u8) -> usize
-    ensures { λ r. ⌜ (r ≡ x) × (r < 256) ⌝ }
-{
-    x as usize
-}
-
 // The first of two indices, where there is one.
 fn or_else(first: Found, second: Found) -> Found
     ensures { λ r. ⌜ r ≡ earlier first second ⌝ }
@@ -71,7 +65,7 @@ fn judge(code: &[u8], masks: &[u32; 16], at: usize) -> Subplan
             }
         }
         _ => {
-            let t = wide(b);
+            let t = words::index(b);
             Subplan {
                 attributes: masks[t],
                 leftmost: t,

@@ -6,12 +6,6 @@ ghost use Rattle.semantics.specs.Plans.{misnamed};
 ghost use Rattle.plans.specs.Spelling.{foundOf};
 use crate::spelling::Found;
 
-fn wide(x: u8) -> usize
-    ensures { λ r. ⌜ (r ≡ x) × (r < 256) ⌝ }
-{
-    x as usize
-}
-
 // The first byte that names a table that is absent, of that many, or already named; the end where a table is not named.
 pub fn first_misnamed(code: &[u8], tables: usize) -> Found
     requires { ⌜ tables ≤ 16 ⌝ }
@@ -24,7 +18,7 @@ pub fn first_misnamed(code: &[u8], tables: usize) -> Found
         let b = code[i];
         match b {
             0..=15 => {
-                let t = wide(b);
+                let t = words::index(b);
                 if tables <= t {
                     return Found::At(i);
                 }

@@ -33,12 +33,6 @@ pub enum Record {
     Table { mask: u32, rows: usize, size: usize },
 }
 
-fn wide(x: u8) -> usize
-    ensures { λ r. ⌜ (r ≡ x) × (r < 256) ⌝ }
-{
-    x as usize
-}
-
 // The two bytes at an offset are those of the mark.
 fn marked(s: &[u8], at: usize, mark: &[u8; 2]) -> bool
     requires { ⌜ at + 2 ≤ length (now s) ⌝ }
@@ -56,7 +50,7 @@ fn plan_record(file: &[u8], at: usize) -> End
     if left < 3 {
         return End::Fault(1, at);
     }
-    let n = wide(file[at + 2]);
+    let n = words::index(file[at + 2]);
     if left < 3 + n {
         return End::Fault(1, at);
     }

@@ -11,6 +11,13 @@ fn wide(x: u8) -> u32
     x as u32
 }
 
+// A byte as an index.
+pub fn index(x: u8) -> usize
+    ensures { λ r. ⌜ (r ≡ x) × (r < 256) ⌝ }
+{
+    x as usize
+}
+
 // The 4-byte number at an offset, little-endian.
 pub fn word(s: &[u8], at: usize) -> u32
     requires { ⌜ at + 4 ≤ length (now s) ⌝ }

@@ -9,20 +9,20 @@ sub-left c = search needs
 returns : tie.Need-returns
 returns c = plan-short _ _ (c .if1 .taken)
 
-add-wide : tie.Need-add-wide
-add-wide c = search needs
+add-index : tie.Need-add-index
+add-index c = search needs
 
-shared-slice-read-wide : tie.Need-shared-slice-read-wide
-shared-slice-read-wide c = search needs
+shared-slice-read-index : tie.Need-shared-slice-read-index
+shared-slice-read-index c = search needs
 
-wide-requires : tie.Need-wide-requires
-wide-requires c κs = search needs
+index-requires : tie.Need-index-requires
+index-requires c κs = search needs
 
 add-if2 : tie.Need-add-if2
 add-if2 c = search needs
 
 returns-2 : tie.Need-returns-2
-returns-2 c = plan-cut _ _ _ (c .before .wide .ensures .0) (c .before .before .before .if1 .left) (c .if2 .taken)
+returns-2 c = plan-cut _ _ _ (c .before .index .ensures .0) (c .before .before .before .if1 .left) (c .if2 .taken)
 
 add-if3 : tie.Need-add-if3
 add-if3 c = search needs
@@ -34,13 +34,13 @@ add-t10 : tie.Need-add-t10
 add-t10 c = search needs
 
 returns-3 : tie.Need-returns-3
-returns-3 c = plan-over _ _ _ (c .before .before .wide .ensures .0) (c .before .before .before .before .if1 .left) (c .if3 .taken)
+returns-3 c = plan-over _ _ _ (c .before .before .index .ensures .0) (c .before .before .before .before .if1 .left) (c .if3 .taken)
 
 add-t5 : tie.Need-add-t5
 add-t5 c = search needs
 
 returns-4 : tie.Need-returns-4
-returns-4 c = plan-exact _ _ _ (c .before .before .wide .ensures .0) (c .before .before .before .before .before .before .pre) (c .before .if2 .left) (c .if3 .left)
+returns-4 c = plan-exact _ _ _ (c .before .before .index .ensures .0) (c .before .before .before .before .before .before .pre) (c .before .if2 .left) (c .if3 .left)
 
 pub plan-record-spec : {M : Type 1} → statement M
 plan-record-spec =
@@ -48,9 +48,9 @@ plan-record-spec =
     (tie.spec
     sub-left
     returns
-    add-wide
-    shared-slice-read-wide
-    wide-requires
+    add-index
+    shared-slice-read-index
+    index-requires
     add-if2
     returns-2
     add-if3

@@ -11,7 +11,7 @@ use Rattle.plans.proofs.behaviour.judge.Reads as judge
 use Rattle.plans.proofs.behaviour.judge.Kinds as judge-kinds
 use Rattle.plans.proofs.behaviour.+judge.Lts-judge as judge-lts
 use Rattle.plans.proofs.behaviour.broken_at.Reads as broken-at-reads
-use Rattle.plans.proofs.behaviour.wide.Reads as wide-reads
+use Rattle.words.proofs.index.Reads as index-reads
 use Rattle.plans.proofs.behaviour.+judge.{statement}
 use Rattle.plans.proofs.behaviour.+judge.Tie.{close}
 
@@ -29,8 +29,8 @@ judge-shared-slice-read-b : (t : ℕ) → judge-lts.Need-shared-slice-read-b (
   judge.Post,
   broken-at-reads.Asked,
   broken-at-reads.Learnt,
-  wide-reads.Asked,
-  wide-reads.Learnt,
+  index-reads.Asked,
+  index-reads.Learnt,
 ) (judge-at t) judge.Post
 judge-shared-slice-read-b t c = starts _ _ (c .before .before .pre .1)
 
@@ -39,8 +39,8 @@ judge-add-judge : (t : ℕ) → judge-lts.Need-add-judge (
   judge.Post,
   broken-at-reads.Asked,
   broken-at-reads.Learnt,
-  wide-reads.Asked,
-  wide-reads.Learnt,
+  index-reads.Asked,
+  index-reads.Learnt,
 ) (judge-at t) judge.Post
 judge-add-judge t c = omega (arith, starts _ _ (c .before .before .before .pre .1))
 
@@ -49,8 +49,8 @@ judge-judge-requires : (t : ℕ) → judge-lts.Need-judge-requires (
   judge.Post,
   broken-at-reads.Asked,
   broken-at-reads.Learnt,
-  wide-reads.Asked,
-  wide-reads.Learnt,
+  index-reads.Asked,
+  index-reads.Learnt,
 ) (judge-at t) judge.Post
 judge-judge-requires t c κs = let q = c .before .before .before .pre .1 in (omega (arith, starts _ _ q), left _ _ (c .match .keys1) q)
 
@@ -59,8 +59,8 @@ judge-judge-requires-2 : (t : ℕ) → judge-lts.Need-judge-requires-2 (
   judge.Post,
   broken-at-reads.Asked,
   broken-at-reads.Learnt,
-  wide-reads.Asked,
-  wide-reads.Learnt,
+  index-reads.Asked,
+  index-reads.Learnt,
 ) (judge-at t) judge.Post
 judge-judge-requires-2 t c κs = let q = c .before .before .before .before .pre .1 in
     let k = c .before .match .keys1 in (
@@ -73,8 +73,8 @@ judge-mul-broken-at : (t : ℕ) → judge-lts.Need-mul-broken-at (
   judge.Post,
   broken-at-reads.Asked,
   broken-at-reads.Learnt,
-  wide-reads.Asked,
-  wide-reads.Learnt,
+  index-reads.Asked,
+  index-reads.Learnt,
 ) (judge-at t) judge.Post
 judge-mul-broken-at t c = omega (arith, left-index _ _ _ (c .before .before .match .keys1) _ (c .before .judge .ensures) (c .before .before .before .before .before .pre .1))
 
@@ -83,8 +83,8 @@ judge-element-copy-out-broken-at : (t : ℕ) → judge-lts.Need-element-copy-out
   judge.Post,
   broken-at-reads.Asked,
   broken-at-reads.Learnt,
-  wide-reads.Asked,
-  wide-reads.Learnt,
+  index-reads.Asked,
+  index-reads.Learnt,
 ) (judge-at t) judge.Post
 judge-element-copy-out-broken-at t c = omega (arith, left-index _ _ _ (c .before .before .match .keys1) _ (c .before .judge .ensures) (c .before .before .before .before .before .pre .1))
 
@@ -93,8 +93,8 @@ judge-mul-broken-at-2 : (t : ℕ) → judge-lts.Need-mul-broken-at-2 (
   judge.Post,
   broken-at-reads.Asked,
   broken-at-reads.Learnt,
-  wide-reads.Asked,
-  wide-reads.Learnt,
+  index-reads.Asked,
+  index-reads.Learnt,
 ) (judge-at t) judge.Post
 judge-mul-broken-at-2 t c = omega (arith, right-index _ _ _ (c .before .before .before .match .keys1) _ (c .before .before .judge .ensures) (c .before .before .before .before .before .before .pre .1) _ (c .before .judge2 .ensures))
 
@@ -103,8 +103,8 @@ judge-element-copy-out-broken-at-2 : (t : ℕ) → judge-lts.Need-element-copy-o
   judge.Post,
   broken-at-reads.Asked,
   broken-at-reads.Learnt,
-  wide-reads.Asked,
-  wide-reads.Learnt,
+  index-reads.Asked,
+  index-reads.Learnt,
 ) (judge-at t) judge.Post
 judge-element-copy-out-broken-at-2 t c = omega (arith, right-index _ _ _ (c .before .before .before .match .keys1) _ (c .before .before .judge .ensures) (c .before .before .before .before .before .before .pre .1) _ (c .before .judge2 .ensures))
 
@@ -113,48 +113,48 @@ judge-broken-at-requires : (t : ℕ) → judge-lts.Need-broken-at-requires (
   judge.Post,
   broken-at-reads.Asked,
   broken-at-reads.Learnt,
-  wide-reads.Asked,
-  wide-reads.Learnt,
+  index-reads.Asked,
+  index-reads.Learnt,
 ) (judge-at t) judge.Post
 judge-broken-at-requires t c κs = search needs
 
-judge-wide-requires : (t : ℕ) → judge-lts.Need-wide-requires (
+judge-index-requires : (t : ℕ) → judge-lts.Need-index-requires (
   judge-below t,
   judge.Post,
   broken-at-reads.Asked,
   broken-at-reads.Learnt,
-  wide-reads.Asked,
-  wide-reads.Learnt,
+  index-reads.Asked,
+  index-reads.Learnt,
 ) (judge-at t) judge.Post
-judge-wide-requires t c κs = search needs
+judge-index-requires t c κs = search needs
 
 judge-mul-t23 : (t : ℕ) → judge-lts.Need-mul-t23 (
   judge-below t,
   judge.Post,
   broken-at-reads.Asked,
   broken-at-reads.Learnt,
-  wide-reads.Asked,
-  wide-reads.Learnt,
+  index-reads.Asked,
+  index-reads.Learnt,
 ) (judge-at t) judge.Post
-judge-mul-t23 t c = omega (arith, c .wide .ensures .0, table _ _ (c .before .match .rest .1) (c .before .before .before .before .pre .1))
+judge-mul-t23 t c = omega (arith, c .index .ensures .0, table _ _ (c .before .match .rest .1) (c .before .before .before .before .pre .1))
 
 judge-element-copy-out-t26 : (t : ℕ) → judge-lts.Need-element-copy-out-t26 (
   judge-below t,
   judge.Post,
   broken-at-reads.Asked,
   broken-at-reads.Learnt,
-  wide-reads.Asked,
-  wide-reads.Learnt,
+  index-reads.Asked,
+  index-reads.Learnt,
 ) (judge-at t) judge.Post
-judge-element-copy-out-t26 t c = omega (arith, c .wide .ensures .0, table _ _ (c .before .match .rest .1) (c .before .before .before .before .pre .1))
+judge-element-copy-out-t26 t c = omega (arith, c .index .ensures .0, table _ _ (c .before .match .rest .1) (c .before .before .before .before .pre .1))
 
 judge-add-t27 : (t : ℕ) → judge-lts.Need-add-t27 (
   judge-below t,
   judge.Post,
   broken-at-reads.Asked,
   broken-at-reads.Learnt,
-  wide-reads.Asked,
-  wide-reads.Learnt,
+  index-reads.Asked,
+  index-reads.Learnt,
 ) (judge-at t) judge.Post
 judge-add-t27 t c = omega (arith, starts _ _ (c .before .before .before .before .before .pre .1))
 
@@ -163,8 +163,8 @@ judge-returns : (t : ℕ) → judge-lts.Need-returns (
   judge.Post,
   broken-at-reads.Asked,
   broken-at-reads.Learnt,
-  wide-reads.Asked,
-  wide-reads.Learnt,
+  index-reads.Asked,
+  index-reads.Learnt,
 ) (judge-at t) judge.Post
 judge-returns t c = λ p e h.
     rw (c .before .before .broken-at .ensures)
@@ -175,10 +175,10 @@ judge-returns-2 : (t : ℕ) → judge-lts.Need-returns-2 (
   judge.Post,
   broken-at-reads.Asked,
   broken-at-reads.Learnt,
-  wide-reads.Asked,
-  wide-reads.Learnt,
+  index-reads.Asked,
+  index-reads.Learnt,
 ) (judge-at t) judge.Post
-judge-returns-2 t c = λ p e h. one-table _ _ _ (c .before .before .match .rest .1) _ (c .before .wide .ensures .0) p e h
+judge-returns-2 t c = λ p e h. one-table _ _ _ (c .before .before .match .rest .1) _ (c .before .index .ensures .0) p e h
 
 pub +judge-spec : {M : Type 1} → statement M
 +judge-spec = close μ-judge λ t. judge-lts.spec (
@@ -186,8 +186,8 @@ pub +judge-spec : {M : Type 1} → statement M
   judge.Post,
   broken-at-reads.Asked,
   broken-at-reads.Learnt,
-  wide-reads.Asked,
-  wide-reads.Learnt,
+  index-reads.Asked,
+  index-reads.Learnt,
 )
     (judge-at t)
     judge.Post
@@ -200,7 +200,7 @@ pub +judge-spec : {M : Type 1} → statement M
     (judge-mul-broken-at-2 t)
     (judge-element-copy-out-broken-at-2 t)
     (judge-broken-at-requires t)
-    (judge-wide-requires t)
+    (judge-index-requires t)
     (judge-mul-t23 t)
     (judge-element-copy-out-t26 t)
     (judge-add-t27 t)

@@ -21,18 +21,18 @@ loop-holds c = begun _ _
 shared-slice-read-b : tie.Need-shared-slice-read-b Inv-loop μ-loop
 shared-slice-read-b c = search needs
 
-wide-requires : tie.Need-wide-requires Inv-loop μ-loop
-wide-requires c κs = search needs
+index-requires : tie.Need-index-requires Inv-loop μ-loop
+index-requires c κs = search needs
 
 returns : tie.Need-returns Inv-loop μ-loop
-returns c = let e = c .before .wide .ensures .0 in
+returns c = let e = c .before .index .ensures .0 in
     sym (absent _ _ _ _ _ (c .before .before .before .before .before .before .loop .inv) (c .before .before .before .before .before .loop-test .taken) (c .before .before .before .match .rest .1) (rw e at (c .if2 .taken)))
 
 array-read-if3 : tie.Need-array-read-if3 Inv-loop μ-loop
 array-read-if3 c = search needs
 
 returns-2 : tie.Need-returns-2 Inv-loop μ-loop
-returns-2 c = let e = c .before .before .wide .ensures .0 in
+returns-2 c = let e = c .before .before .index .ensures .0 in
     sym (repeated _ _ _ _ _ (c .before .before .before .before .before .before .before .loop .inv) (c .before .before .before .before .before .before .loop-test .taken) (c .before .before .before .before .match .rest .1) (omega arith) (rw e at (c .before .if2 .left)) (rw e at (c .if3 .taken)))
 
 array-write-named : tie.Need-array-write-named Inv-loop μ-loop
@@ -72,7 +72,7 @@ first-misnamed-spec =
     μ-loop
     loop-holds
     shared-slice-read-b
-    wide-requires
+    index-requires
     returns
     array-read-if3
     returns-2
