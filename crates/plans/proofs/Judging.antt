@@ -36,11 +36,11 @@ pub broken-here : (at x y m n : ℕ) (f g : Found) → (bitAnd (bitAnd x y) (bit
 unfolding brokenOf
 broken-here at x y m n f g e = rw (ne-eqb (bitAnd (bitAnd x y) (bitAnd m n)) (bitAnd x y) e, brokenOf)
 
-holds-scan : (S : Shape) (t a : ℕ) → holds S (scan t) a ≡ S .has t a
+pub holds-scan : (S : Shape) (t a : ℕ) → holds S (scan t) a ≡ S .has t a
 unfolding holds
 holds-scan S t a = or-false (S .has t a)
 
-holds-join : (S : Shape) (l r : Plan) (a : ℕ) → holds S (join l r) a ≡ (holds S l a || holds S r a)
+pub holds-join : (S : Shape) (l r : Plan) (a : ℕ) → holds S (join l r) a ≡ (holds S l a || holds S r a)
 unfolding holds
 holds-join S l r a = any-append (λ t. S .has t a) (tables l) (tables r)
 

@@ -8,3 +8,5 @@ pub mod Whole
 pub mod Admitting
 pub mod Scratch
 pub mod Verdicts
+pub mod ByNumber
+pub mod Prepared

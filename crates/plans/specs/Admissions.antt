@@ -6,7 +6,7 @@ use Prim.Native.Nat.{ℕ, _<_, _≤_, _^_}
 use lib.ListN.{length}
 use Rattle.semantics.specs.Lists.{Each}
 use Rattle.semantics.specs.Files.{Table, read}
-use Rattle.semantics.specs.Plans.{misplaced, planOf}
+use Rattle.semantics.specs.Plans.{Plan, misplaced, planOf}
 use Rattle.semantics.specs.Outcome.{Verdict, refused, admitted, planVerdict, scratchVerdict, verdict}
 use Rattle.words.specs.Arrays.{padded}
 use Rattle.tables.specs.declared.Catalog.{Catalog}
@@ -56,3 +56,15 @@ planAdmission ts code words =
 unfoldable pub admissionOf : List ℕ → ℕ → Admission
 admissionOf bytes words =
     record { verdict = verdictOf (verdict bytes words); catalog = catalogOf ((read bytes) .tables); schedule = scheduleFor (verdict bytes words) }
+
+-- the file is admitted, with the tables ts and the plan p, and c and s are its catalog and its schedule
+pub record AdmittedAs (bytes : List ℕ) (words : ℕ) (c : Catalog) (s : Schedule) (ts : List Table) (p : Plan) : Type 0 where
+  pub accepted : verdict bytes words ≡ admitted ts p
+  pub catalog : c ≡ catalogOf ts
+  pub schedule : s ≡ scheduleOf (padded (map (λ t. t .mask) ts)) (padded (map (λ t. t .rows) ts)) p
+
+-- it is so for some tables and some plan
+pub record AdmittedOf (bytes : List ℕ) (words : ℕ) (c : Catalog) (s : Schedule) : Type 0 where
+  pub ts : List Table
+  pub plan : Plan
+  pub admitted : AdmittedAs bytes words c s ts plan

@@ -4,3 +4,5 @@ pub mod Names
 pub mod Judging
 pub mod Schedules
 pub mod Admissions
+pub mod ByNumber
+pub mod Prepared

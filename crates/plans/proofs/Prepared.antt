@@ -1,0 +1,117 @@
+-- From a file admitted to what the code may rely on.
+use Prim.Native.Nat.{ℕ, _+_, _*_, _<_, _≤_}
+use mathlib.Core.Path.{_≡_, refl, sym, ap, _∙_}
+use mathlib.Core.List.{List, [], _∷_, map}
+use native.Mathlib.Omega.{arith}
+use lib.ListN.{length, getD, length-map, List·getD-map}
+use Rattle.semantics.specs.Lists.{Each}
+use Rattle.semantics.specs.Files.{Table, hasBit, Fitting, read}
+use Rattle.semantics.specs.Plans.{Plan, tables, leftmost}
+use Rattle.semantics.specs.Shapes.{noTable, shapeOf, leftRows, scratchNeed}
+use Rattle.semantics.specs.Outcome.{Verdict, refused, admitted, verdict, WithinRules}
+use Rattle.semantics.proofs.Reading.{tables-few, tables-fit}
+use Rattle.semantics.proofs.Rules.{verdict-cases, rules-tables, verdict-within, verdict-rules, tables-count, rows-count}
+use Rattle.words.specs.Arrays.{padded}
+use Rattle.words.proofs.Arrays.{padded-at, padded-length}
+use Rattle.tables.specs.declared.Catalog.{Catalog}
+use Rattle.tables.specs.Catalogs.{catalogOf, tableWith}
+use Rattle.plans.specs.declared.schedule.Schedule.{Schedule}
+use Rattle.plans.specs.declared.admission.Verdict.the-variants as decision
+use Rattle.plans.specs.declared.admission.Admission.{Admission}
+use Rattle.plans.specs.Schedules.{Step, joins, parentsIn, viasIn, storage, steps, scheduleWith, scheduleOf}
+use Rattle.plans.specs.Admissions.{verdictOf, scheduleFor, admissionOf, AdmittedAs, AdmittedOf}
+use Rattle.plans.specs.Prepared.{Sized, Prepared}
+use Rattle.plans.proofs.Growing.{steps-length, parents-length, vias-length}
+use Rattle.plans.proofs.Whole.{joins-tables, storage-need}
+use Rattle.plans.proofs.Admitting.{mask-at, rows-at}
+use Rattle.plans.proofs.ByNumber.{schedule-steps}
+
+-- ---- the answer `admitted` comes with a catalog and a schedule
+pub admitted-as : (bytes : List ℕ) (words : ℕ) (a : Admission) → a ≡ admissionOf bytes words → a .verdict ≡ decision.Admitted → AdmittedOf bytes words (a .catalog) (a .schedule)
+unfolding admissionOf
+admitted-as bytes words a e h =
+    verdict-cases (verdict bytes words)
+    (λ n d v. let q : decision.Refused n d ≡ decision.Admitted = sym (ap verdictOf v) ∙ sym (ap (λ x. x .verdict) e) ∙ h in let w : _≡_ {A = ℕ} 0 1 = cc in absurd (omega arith))
+    (λ ts p v.
+    let t : ts ≡ (read bytes) .tables = rules-tables bytes ts p ((verdict-rules bytes words ts p v) .0) in
+    record { ts = ts; plan = p; admitted = record { accepted = v; catalog = ap (λ x. x .catalog) e ∙ ap catalogOf (sym t); schedule = ap (λ x. x .schedule) e ∙ ap scheduleFor v } })
+
+-- ---- the arrays
+field-length : {A : Type 0} (f : A → ℕ) (xs : List A) → length xs ≤ 16 → length (padded (map f xs)) ≡ 16
+field-length f xs h = padded-length (map f xs) (omega (arith, length-map xs f))
+
+module _ (ts : List Table) (p : Plan) (few : length ts ≤ 16) (few′ : length (tables p) ≤ 16) where
+  sized-of : (masks rows : List ℕ) → Sized (catalogOf ts) (scheduleOf masks rows p)
+  unfolding catalogOf scheduleOf scheduleWith
+  sized-of masks rows =
+      let ss = steps masks rows p 0 0 in
+      let n : length ss ≤ 16 = omega (arith, steps-length masks rows p 0 0, joins-tables p) in
+      record {
+        masks = field-length (λ t. t .mask) ts few;
+        rows = field-length (λ t. t .rows) ts few;
+        starts = field-length (λ t. t .start) ts few;
+        lefts = field-length (λ s. s .left) ss n;
+        rights = field-length (λ s. s .right) ss n;
+        keys = field-length (λ s. s .key) ss n;
+        left-tops = field-length (λ s. s .leftTop) ss n;
+        right-tops = field-length (λ s. s .rightTop) ss n;
+        places = field-length (λ s. s .place) ss n;
+        order = padded-length (tables p) few′;
+        parents = padded-length (0 ∷ parentsIn p 0) (omega (arith, parents-length p 0, joins-tables p));
+        vias = padded-length (0 ∷ viasIn p 0) (omega (arith, vias-length p 0, joins-tables p));
+      }
+
+start-at : (ts : List Table) (i : ℕ) → getD (padded (map (λ t. t .start) ts)) i 0 ≡ (getD ts i noTable) .start
+start-at ts i = padded-at (map (λ t. t .start) ts) i ∙ List·getD-map (λ t. t .start) ts i noTable
+
+-- ---- all of it
+module _ (bytes : List ℕ) (words : ℕ) (ts : List Table) (p : Plan) (v : verdict bytes words ≡ admitted ts p) where
+  within : WithinRules ts p
+  within = verdict-within bytes words ts p v
+
+  tables-are : ts ≡ (read bytes) .tables
+  tables-are = rules-tables bytes ts p ((verdict-rules bytes words ts p v) .0)
+
+  few : length ts ≤ 16
+  few = omega (arith, tables-few bytes, ap length tables-are)
+
+  abbrev rows : List ℕ
+  rows = padded (map (λ t. t .rows) ts)
+
+  abbrev masks : List ℕ
+  masks = padded (map (λ t. t .mask) ts)
+
+  rows-of : (t : ℕ) → getD rows t 0 ≡ (shapeOf ts) .rows t
+  unfolding shapeOf
+  rows-of t = rows-at ts t
+
+  need-fits : storage rows p + 8 * getD rows (leftmost p) 0 ≤ words
+  unfolding scratchNeed
+  need-fits = omega (arith, storage-need (shapeOf ts) rows (λ t h. rows-of t) p (within .small), rows-count ts p within, (verdict-rules bytes words ts p v) .1)
+
+  table-at : (t : ℕ) → tableWith (getD masks t 0) (getD rows t 0) (getD (padded (map (λ t. t .start) ts)) t 0) ≡ getD ts t noTable
+  table-at t = λ i. record { mask = mask-at ts t i; rows = rows-at ts t i; start = start-at ts t i }
+
+  prepared-of : Prepared bytes words (catalogOf ts) (scheduleOf masks rows p) ts p
+  unfolding catalogOf scheduleOf scheduleWith shapeOf
+  prepared-of =
+      record {
+        within = within;
+        few = few;
+        fits = rw tables-are (tables-fit bytes);
+        masks = λ t a. ap (λ m. hasBit m a) (sym (mask-at ts t));
+        rows = rows-of;
+        table = table-at;
+        count = steps-length masks rows p 0 0;
+        steps = schedule-steps masks rows p (omega (arith, tables-count ts p within, few));
+        named = refl;
+        order = refl;
+        parents = refl;
+        vias = refl;
+        used = refl;
+        need = need-fits;
+        sized = sized-of ts p few (omega (arith, tables-count ts p within, few)) masks rows;
+      }
+
+pub prepared : (bytes : List ℕ) (words : ℕ) (c : Catalog) (s : Schedule) (ts : List Table) (p : Plan) → AdmittedAs bytes words c s ts p → Prepared bytes words c s ts p
+prepared bytes words c s ts p a = rw (a .catalog, a .schedule) (prepared-of bytes words ts p (a .accepted))
