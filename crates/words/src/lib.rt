@@ -1,9 +1,10 @@
-// Words of a byte slice, bits of a mask, and sums and products held at the limit.
+// Words of a byte slice, bits of a mask, sums and products held at the limit, and words zeroed.
 ghost use mathlib.Core.Path.{_≡_};
 ghost use Prim.Native.Nat.{_+_, _*_, _<_, _≤_};
 ghost use lib.ListN.{length};
 ghost use Rattle.semantics.specs.Files.{wordAt, hasBit, onesBelow, arity};
 ghost use Rattle.semantics.specs.Totals.{held};
+ghost use Rattle.semantics.specs.Outcome.{zeros};
 
 fn wide(x: u8) -> u32
     ensures { λ r. ⌜ (r ≡ x) × (r < 256) ⌝ }
@@ -70,5 +71,16 @@ pub fn held_mul(a: u32, b: u32) -> u32
         product as u32
     } else {
         4294967295
+    }
+}
+
+// Zeroes all words.
+pub fn clear(words: &mut [u32])
+    ensures { λ _. ⌜ now (words .exit) ≡ zeros (now (words .entry)) ⌝ }
+{
+    let mut i = 0;
+    while i < words.len() {
+        words[i] = 0;
+        i += 1;
     }
 }
