@@ -2,6 +2,8 @@
 use mathlib.Core.Path.{_≡_, refl}
 use mathlib.Core.Bool.{Bool, true, false, _&&_, _||_, not}
 use mathlib.Core.Option.{Option, none, some}
+use Prim.Native.Nat.{ℕ}
+use native.Mathlib.Omega.{arith}
 
 -- either way a test goes
 pub cases : {P : Type 0} (b : Bool) → (b ≡ true → P) → (b ≡ false → P) → P
@@ -31,3 +33,15 @@ or-false-right false b e = e
 pub not-or : (a b : Bool) → not (a || b) ≡ (not a && not b)
 not-or true b = refl
 not-or false b = refl
+
+pub not-true : (b : Bool) → not b ≡ true → b ≡ false
+not-true true e = cc
+not-true false e = refl
+
+pub not-false : (b : Bool) → not b ≡ false → b ≡ true
+not-false true e = refl
+not-false false e = cc
+
+-- a test does not go both ways
+pub true-false : (b : Bool) → b ≡ true → b ≡ false → ⊥
+true-false b p q = let z : _≡_ {A = ℕ} 0 1 = cc in omega (arith, z)

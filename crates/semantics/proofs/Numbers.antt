@@ -1,7 +1,7 @@
 -- Rising rows of numbers: `from`, `upTo` and `Rising`.
 use mathlib.Core.Path.{_≡_, refl, ap, _∙_, subst}
 use mathlib.Core.Bool.{Bool, true, false, _&&_, or-false}
-use mathlib.Core.List.{List, [], _∷_, append-nil}
+use mathlib.Core.List.{List, [], _∷_, _++_, append-nil}
 use Prim.Native.Nat.{ℕ, zero, suc, _+_, _≤_, _<_}
 use native.Mathlib.Omega.{arith}
 use native.Mathlib.Nat.{zero-add, add-zero}
@@ -20,6 +20,14 @@ pub from-lt : (i n : ℕ) → Each (λ y. (i ≤ y) × (y < i + n)) (from i n)
 from-lt i zero = tt
 from-lt i (suc n) =
     (omega arith, Each-map (λ y. (suc i ≤ y) × (y < suc i + n)) (λ y. (i ≤ y) × (y < i + suc n)) (λ y h. omega arith) (from (suc i) n) (from-lt (suc i) n))
+
+-- a row in two parts
+pub from-split : (i n m : ℕ) → from i (n + m) ≡ from i n ++ from (i + n) m
+from-split i zero m = rw (add-zero i, zero-add m)
+from-split i (suc n) m =
+    let e : suc n + m ≡ suc (n + m) = omega arith in
+    let z : suc i + n ≡ i + suc n = omega arith in
+    ap (from i) e ∙ ap (λ l. i ∷ l) (from-split (suc i) n m ∙ ap (λ j. from (suc i) n ++ from j m) z)
 
 -- what each number of the row has, each number in its range has
 pub from-at : (P : ℕ → Type 0) (i n a : ℕ) → Each P (from i n) → i ≤ a → a < i + n → P a
