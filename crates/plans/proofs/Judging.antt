@@ -1,16 +1,16 @@
 -- One step of the check of well-behaved plans: a single table, and a join of two plans.
-use Prim.Native.Nat.{ℕ, suc, _+_, _<_, _≤_, _^_}
+use Prim.Native.Nat.{ℕ, suc, _+_, _<_, _^_}
 use mathlib.Core.Path.{_≡_, refl, sym, ap, ap₂, _∙_, fun-ext}
-use mathlib.Core.Bool.{Bool, true, false, _&&_, _||_, or-false}
-use mathlib.Core.List.{List, [], _∷_}
+use mathlib.Core.Bool.{_&&_, _||_, or-false}
+use mathlib.Core.List.{List}
 use mathlib.Core.Option.{Option, none, some}
 use native.Mathlib.Omega.{arith}
 use native.Mathlib.Numerals.{add-one}
 use lib.ListN.{length, getD}
 use lib.Dec.{eqb}
 use borrow.Author.Tests.{eq-eqb, ne-eqb}
-use lib.Bits.{bitAnd, bitOr, and-lt, or-lt, and-le-l}
-use Rattle.semantics.specs.Lists.{any, all, filter}
+use lib.Bits.{bitAnd, or-lt, and-le-l}
+use Rattle.semantics.specs.Lists.{all, filter}
 use Rattle.semantics.specs.Files.{hasBit}
 use Rattle.semantics.specs.Plans.{Plan, scan, join, encode, tables, leftmost}
 use Rattle.semantics.specs.Shapes.{Shape, attributes, holds, shared, joinAttributes, behaves, illBehaved, orElse}
@@ -21,7 +21,7 @@ use Rattle.plans.specs.declared.spelling.Found.{Found}
 use Rattle.plans.specs.declared.behaviour.Subplan.{Subplan}
 use Rattle.plans.specs.Places.{PlanAt, Planned}
 use Rattle.plans.specs.Spelling.{foundOf}
-use Rattle.plans.specs.Judging.{earlier, brokenOf, joinedOf, Masked, Ruled, Judged}
+use Rattle.plans.specs.Judging.{earlier, brokenOf, joinedOf, Ruled, Judged}
 use Rattle.plans.proofs.Places.{plan-end, left, right}
 
 earlier-found : (a b : Option ℕ) → earlier (foundOf a) (foundOf b) ≡ foundOf (orElse a b)

@@ -1,14 +1,13 @@
 -- From a file admitted to what the code may rely on.
-use Prim.Native.Nat.{ℕ, _+_, _*_, _<_, _≤_}
+use Prim.Native.Nat.{ℕ, _+_, _*_, _≤_}
 use mathlib.Core.Path.{_≡_, refl, sym, ap, _∙_}
-use mathlib.Core.List.{List, [], _∷_, map}
+use mathlib.Core.List.{List, _∷_, map}
 use native.Mathlib.Omega.{arith}
 use lib.ListN.{length, getD, length-map, List·getD-map}
-use Rattle.semantics.specs.Lists.{Each}
-use Rattle.semantics.specs.Files.{Table, hasBit, Fitting, read}
+use Rattle.semantics.specs.Files.{Table, hasBit, read}
 use Rattle.semantics.specs.Plans.{Plan, tables, leftmost}
-use Rattle.semantics.specs.Shapes.{noTable, shapeOf, leftRows, scratchNeed}
-use Rattle.semantics.specs.Outcome.{Verdict, refused, admitted, verdict, WithinRules}
+use Rattle.semantics.specs.Shapes.{noTable, shapeOf, scratchNeed}
+use Rattle.semantics.specs.Outcome.{admitted, verdict, WithinRules}
 use Rattle.semantics.proofs.Reading.{tables-few, tables-fit}
 use Rattle.semantics.proofs.Rules.{verdict-cases, rules-tables, verdict-within, verdict-rules, tables-count, rows-count}
 use Rattle.words.specs.Arrays.{padded}
@@ -18,7 +17,7 @@ use Rattle.tables.specs.Catalogs.{catalogOf, tableWith}
 use Rattle.plans.specs.declared.schedule.Schedule.{Schedule}
 use Rattle.plans.specs.declared.admission.Verdict.the-variants as decision
 use Rattle.plans.specs.declared.admission.Admission.{Admission}
-use Rattle.plans.specs.Schedules.{Step, joins, parentsIn, viasIn, storage, steps, scheduleWith, scheduleOf}
+use Rattle.plans.specs.Schedules.{parentsIn, viasIn, storage, steps, scheduleWith, scheduleOf}
 use Rattle.plans.specs.Admissions.{verdictOf, scheduleFor, admissionOf, AdmittedAs, AdmittedOf}
 use Rattle.plans.specs.Prepared.{Sized, Prepared}
 use Rattle.plans.proofs.Growing.{steps-length, parents-length, vias-length}

@@ -19,6 +19,13 @@ pub fn index(x: u8) -> usize
     x as usize
 }
 
+// A word as an index.
+pub fn word_index(word: u32) -> usize
+    ensures { λ r. ⌜ (r ≡ word) × (r < 4294967296) ⌝ }
+{
+    word as usize
+}
+
 // The 4-byte number at an offset, little-endian.
 pub fn word(s: &[u8], at: usize) -> u32
     requires { ⌜ at + 4 ≤ length (now s) ⌝ }
