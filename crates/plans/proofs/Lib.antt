@@ -8,5 +8,6 @@ pub mod Whole
 pub mod Admitting
 pub mod Scratch
 pub mod Verdicts
+pub mod Segments
 pub mod ByNumber
 pub mod Prepared

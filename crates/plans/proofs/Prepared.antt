@@ -23,7 +23,7 @@ use Rattle.plans.specs.Prepared.{Sized, Prepared}
 use Rattle.plans.proofs.Growing.{steps-length, parents-length, vias-length}
 use Rattle.plans.proofs.Whole.{joins-tables, storage-need}
 use Rattle.plans.proofs.Admitting.{mask-at, rows-at}
-use Rattle.plans.proofs.ByNumber.{schedule-steps}
+use Rattle.plans.proofs.ByNumber.{schedule-steps, schedule-tables}
 
 -- ---- the answer `admitted` comes with a catalog and a schedule
 pub admitted-as : (bytes : List ℕ) (words : ℕ) (a : Admission) → a ≡ admissionOf bytes words → a .verdict ≡ decision.Admitted → AdmittedOf bytes words (a .catalog) (a .schedule)
@@ -105,8 +105,7 @@ module _ (bytes : List ℕ) (words : ℕ) (ts : List Table) (p : Plan) (v : verd
         steps = schedule-steps masks rows p (omega (arith, tables-count ts p within, few));
         named = refl;
         order = refl;
-        parents = refl;
-        vias = refl;
+        positions = schedule-tables masks rows p;
         used = refl;
         need = need-fits;
         sized = sized-of ts p few (omega (arith, tables-count ts p within, few)) masks rows;

@@ -1,9 +1,9 @@
--- The schedule as its users read it: what its arrays hold for each join, by the join's number.
+-- The schedule as its users read it: what its arrays hold for each join, by its number, and for each table, by its position.
 use mathlib.Core.Path.{_≡_}
 use mathlib.Core.List.{List}
 use Prim.Native.Nat.{ℕ, _+_, _<_}
-use lib.ListN.{getD}
-use Rattle.semantics.specs.Plans.{Plan, scan, join}
+use lib.ListN.{length, getD}
+use Rattle.semantics.specs.Plans.{Plan, scan, join, tables, leftmost}
 use Rattle.plans.specs.declared.schedule.Schedule.{Schedule}
 use Rattle.plans.specs.Schedules.{Step, joins, storage, stepOf}
 
@@ -22,3 +22,15 @@ abbrev pub StepsAt : Schedule → List ℕ → List ℕ → Plan → ℕ → ℕ
 StepsAt c masks rows (scan t) a i = Unit {0}
 StepsAt c masks rows (join l r) a i =
     StepsAt c masks rows l a i × StepsAt c masks rows r (a + storage rows l) (i + joins l) × StepAt c (stepOf masks rows l r a i) (i + joins l + joins r)
+
+-- the table at position t of the plan order, with the position of its parent and the join whose right plan it begins
+pub record TableAt (c : Schedule) (tableIs parentIs viaIs t : ℕ) : Type 0 where
+  pub table : getD (c .order) t 0 ≡ tableIs
+  pub parent : getD (c .parents) t 0 ≡ parentIs
+  pub via : getD (c .vias) t 0 ≡ viaIs
+
+-- every table after the first of a plan whose first table stands at position q and whose joins are numbered from i on
+abbrev pub TablesAt : Schedule → Plan → ℕ → ℕ → Type 0
+TablesAt c (scan t) q i = Unit {0}
+TablesAt c (join l r) q i =
+    TablesAt c l q i × TablesAt c r (q + length (tables l)) (i + joins l) × TableAt c (leftmost r) q (i + joins l + joins r) (q + length (tables l))

@@ -1,6 +1,6 @@
 -- What the code may rely on once a file is admitted: its catalog, its schedule and the words that it needs.
 use mathlib.Core.Path.{_≡_}
-use mathlib.Core.List.{List, _∷_}
+use mathlib.Core.List.{List}
 use Prim.Native.Nat.{ℕ, _+_, _*_, _≤_}
 use lib.ListN.{length, getD}
 use Rattle.semantics.specs.Lists.{Each}
@@ -12,8 +12,8 @@ use Rattle.words.specs.Arrays.{padded}
 use Rattle.tables.specs.declared.Catalog.{Catalog}
 use Rattle.tables.specs.Catalogs.{tableWith}
 use Rattle.plans.specs.declared.schedule.Schedule.{Schedule}
-use Rattle.plans.specs.Schedules.{joins, parentsIn, viasIn, storage}
-use Rattle.plans.specs.ByNumber.{StepsAt}
+use Rattle.plans.specs.Schedules.{joins, storage}
+use Rattle.plans.specs.ByNumber.{StepsAt, TablesAt}
 
 -- the arrays have 16 places each
 pub record Sized (c : Catalog) (s : Schedule) : Type 0 where
@@ -43,8 +43,7 @@ pub record Prepared (bytes : List ℕ) (words : ℕ) (c : Catalog) (s : Schedule
   pub steps : StepsAt s (c .masks) (c .rows) p 0 0
   pub named : s .tables ≡ length (tables p)
   pub order : s .order ≡ padded (tables p)
-  pub parents : s .parents ≡ padded (0 ∷ parentsIn p 0)
-  pub vias : s .vias ≡ padded (0 ∷ viasIn p 0)
+  pub positions : TablesAt s p 0 0
   pub used : s .used ≡ storage (c .rows) p
   pub need : s .used + 8 * getD (c .rows) (leftmost p) 0 ≤ words
   pub sized : Sized c s
