@@ -1,27 +1,29 @@
 -- From a file admitted to what the code may rely on.
-use Prim.Native.Nat.{ℕ, _+_, _*_, _≤_}
+use Prim.Native.Nat.{ℕ, _+_, _*_, _<_, _≤_}
 use mathlib.Core.Path.{_≡_, refl, sym, ap, _∙_}
-use mathlib.Core.List.{List, _∷_, map}
+use mathlib.Core.List.{List, [], _∷_, _++_, map}
 use native.Mathlib.Omega.{arith}
 use lib.ListN.{length, getD, length-map, List·getD-map}
-use Rattle.semantics.specs.Files.{Table, hasBit, read}
-use Rattle.semantics.specs.Plans.{Plan, tables, leftmost}
+use Rattle.semantics.specs.Lists.{Each}
+use Rattle.semantics.specs.Files.{Table, hasBit, Fitting, read}
+use Rattle.semantics.specs.Plans.{Plan, scan, join, tables, leftmost, Small}
 use Rattle.semantics.specs.Shapes.{noTable, shapeOf, scratchNeed}
 use Rattle.semantics.specs.Outcome.{admitted, verdict, WithinRules}
+use Rattle.semantics.proofs.Lists.{Each-map, Each-append, Each-of-map}
 use Rattle.semantics.proofs.Reading.{tables-few, tables-fit}
 use Rattle.semantics.proofs.Rules.{verdict-cases, rules-tables, verdict-within, verdict-rules, tables-count, rows-count}
 use Rattle.words.specs.Arrays.{padded}
-use Rattle.words.proofs.Arrays.{padded-at, padded-length}
+use Rattle.words.proofs.Arrays.{padded-at, padded-length, padded-each}
 use Rattle.tables.specs.declared.Catalog.{Catalog}
 use Rattle.tables.specs.Catalogs.{catalogOf, tableWith}
 use Rattle.plans.specs.declared.schedule.Schedule.{Schedule}
 use Rattle.plans.specs.declared.admission.Verdict.the-variants as decision
 use Rattle.plans.specs.declared.admission.Admission.{Admission}
-use Rattle.plans.specs.Schedules.{parentsIn, viasIn, storage, steps, scheduleWith, scheduleOf}
+use Rattle.plans.specs.Schedules.{joins, parentsIn, viasIn, storage, stepOf, steps, scheduleWith, scheduleOf}
 use Rattle.plans.specs.Admissions.{verdictOf, scheduleFor, admissionOf, AdmittedAs, AdmittedOf}
 use Rattle.plans.specs.Prepared.{Sized, Prepared}
 use Rattle.plans.proofs.Growing.{steps-length, parents-length, vias-length}
-use Rattle.plans.proofs.Whole.{joins-tables, storage-need}
+use Rattle.plans.proofs.Whole.{joins-tables, storage-le, storage-need}
 use Rattle.plans.proofs.Admitting.{mask-at, rows-at}
 use Rattle.plans.proofs.ByNumber.{schedule-steps, schedule-tables}
 
@@ -60,6 +62,26 @@ module _ (ts : List Table) (p : Plan) (few : length ts ≤ 16) (few′ : length 
         vias = padded-length (0 ∷ viasIn p 0) (omega (arith, vias-length p 0, joins-tables p));
       }
 
+-- ---- what they hold is low
+vias-below : (p : Plan) (i : ℕ) → Each (λ v. v < i + joins p) (viasIn p i)
+vias-below (scan t) i = tt
+vias-below (join l r) i =
+    Each-append (λ v. v < i + (joins l + joins r + 1)) (viasIn l i) ((i + joins l + joins r) ∷ viasIn r (i + joins l)) (Each-map (λ v. v < i + joins l) (λ v. v < i + (joins l + joins r + 1)) (λ v h. omega arith) (viasIn l i) (vias-below l i))
+    (omega arith, Each-map (λ v. v < i + joins l + joins r) (λ v. v < i + (joins l + joins r + 1)) (λ v h. omega arith) (viasIn r (i + joins l)) (vias-below r (i + joins l)))
+
+places-below : (masks rows : List ℕ) (p : Plan) (a i : ℕ) → Each (λ s. s .place ≤ a + storage rows p) (steps masks rows p a i)
+places-below masks rows (scan t) a i = tt
+places-below masks rows (join l r) a i =
+    let b = a + storage rows (join l r) in
+    let B = steps masks rows r (a + storage rows l) (i + joins l) in
+    let s = stepOf masks rows l r a i in
+    Each-append (λ s. s .place ≤ b) (steps masks rows l a i) (B ++ (s ∷ [])) (Each-map (λ s. s .place ≤ a + storage rows l) (λ s. s .place ≤ b) (λ s h. omega arith) (steps masks rows l a i) (places-below masks rows l a i))
+    (Each-append (λ s. s .place ≤ b) B (s ∷ []) (Each-map (λ s. s .place ≤ a + storage rows l + storage rows r) (λ s. s .place ≤ b) (λ s h. omega arith) B (places-below masks rows r (a + storage rows l) (i + joins l))) (omega arith, tt))
+
+small-tables : (p : Plan) → Small p → Each (λ t. t < 16) (tables p)
+small-tables (scan t) h = (h, tt)
+small-tables (join l r) h = Each-append (λ t. t < 16) (tables l) (tables r) (small-tables l (h .0)) (small-tables r (h .1))
+
 start-at : (ts : List Table) (i : ℕ) → getD (padded (map (λ t. t .start) ts)) i 0 ≡ (getD ts i noTable) .start
 start-at ts i = padded-at (map (λ t. t .start) ts) i ∙ List·getD-map (λ t. t .start) ts i noTable
 
@@ -83,6 +105,9 @@ module _ (bytes : List ℕ) (words : ℕ) (ts : List Table) (p : Plan) (v : verd
   rows-of : (t : ℕ) → getD rows t 0 ≡ (shapeOf ts) .rows t
   unfolding shapeOf
   rows-of t = rows-at ts t
+
+  rows-low : (t : ℕ) → getD rows t 0 ≤ 4096
+  rows-low = padded-each (λ n. n ≤ 4096) (map (λ t. t .rows) ts) (Each-of-map (λ n. n ≤ 4096) (λ t. t .rows) ts (Each-map (Fitting (length bytes)) (λ t. t .rows ≤ 4096) (λ t f. f .low) ts (rw tables-are (tables-fit bytes)))) (omega arith)
 
   need-fits : storage rows p + 8 * getD rows (leftmost p) 0 ≤ words
   unfolding scratchNeed
@@ -109,6 +134,11 @@ module _ (bytes : List ℕ) (words : ℕ) (ts : List Table) (p : Plan) (v : verd
         used = refl;
         need = need-fits;
         sized = sized-of ts p few (omega (arith, tables-count ts p within, few)) masks rows;
+        rows-low = rows-low;
+        order-low = padded-each (λ t. t < 16) (tables p) (small-tables p (within .small)) (omega arith);
+        vias-low = padded-each (λ v. v < 16) (0 ∷ viasIn p 0) (omega arith, Each-map (λ v. v < 0 + joins p) (λ v. v < 16) (λ v h. omega (arith, joins-tables p, tables-count ts p within, few)) (viasIn p 0) (vias-below p 0)) (omega arith);
+        places-low = padded-each (λ x. x ≤ storage rows p) (map (λ s. s .place) (steps masks rows p 0 0)) (Each-of-map (λ x. x ≤ storage rows p) (λ s. s .place) (steps masks rows p 0 0) (Each-map (λ s. s .place ≤ 0 + storage rows p) (λ s. s .place ≤ storage rows p) (λ s h. omega arith) (steps masks rows p 0 0) (places-below masks rows p 0 0))) (omega arith);
+        used-low = omega (arith, storage-le rows (λ t h. rows-low t) p (within .small), joins-tables p, tables-count ts p within, few);
       }
 
 pub prepared : (bytes : List ℕ) (words : ℕ) (c : Catalog) (s : Schedule) (ts : List Table) (p : Plan) → AdmittedAs bytes words c s ts p → Prepared bytes words c s ts p

@@ -1,7 +1,7 @@
 -- What the code may rely on once a file is admitted: its catalog, its schedule and the words that it needs.
 use mathlib.Core.Path.{_≡_}
 use mathlib.Core.List.{List}
-use Prim.Native.Nat.{ℕ, _+_, _*_, _≤_}
+use Prim.Native.Nat.{ℕ, _+_, _*_, _<_, _≤_}
 use lib.ListN.{length, getD}
 use Rattle.semantics.specs.Lists.{Each}
 use Rattle.semantics.specs.Files.{Table, hasBit, Fitting}
@@ -46,4 +46,10 @@ pub record Prepared (bytes : List ℕ) (words : ℕ) (c : Catalog) (s : Schedule
   pub positions : TablesAt s p 0 0
   pub used : s .used ≡ storage (c .rows) p
   pub need : s .used + 8 * getD (c .rows) (leftmost p) 0 ≤ words
+  -- what the arrays hold is low
   pub sized : Sized c s
+  pub rows-low : (t : ℕ) → getD (c .rows) t 0 ≤ 4096
+  pub order-low : (i : ℕ) → getD (s .order) i 0 < 16
+  pub vias-low : (i : ℕ) → getD (s .vias) i 0 < 16
+  pub places-low : (j : ℕ) → getD (s .places) j 0 ≤ s .used
+  pub used-low : s .used ≤ 4294967296

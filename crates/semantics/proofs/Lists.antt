@@ -9,7 +9,7 @@ use lib.ListN.{length, length-append, length-map}
 use lib.Dec.{eqb}
 use borrow.Author.Tests.{eqb-true, eq-eqb, ne-eqb}
 use Rattle.semantics.specs.Lists.{oneIf, Each, same, any, all, sum, product, filter, consIf, onlyIf, nonEmpty, concatMap}
-use Rattle.semantics.proofs.Cases.{cases}
+use Rattle.semantics.proofs.Cases.{cases, true-false}
 
 module _ {A : Type 0} where
   -- ---- each element
@@ -81,6 +81,18 @@ module _ {A : Type 0} where
   pub length-filter : (p : A → Bool) (xs : List A) → length (filter p xs) ≤ length xs
   length-filter p [] = omega arith
   length-filter p (x ∷ xs) = cases (p x) (λ h. rw h (omega (arith, length-filter p xs))) (λ h. rw h (omega (arith, length-filter p xs)))
+
+  -- where what passes f passes g
+  pub filter-fewer : (f g : A → Bool) (xs : List A) → Each (λ x. g x ≡ true) (filter f xs) → length (filter f xs) ≤ length (filter g xs)
+  filter-fewer f g [] e = omega arith
+  filter-fewer f g (x ∷ xs) e = more (f x) (g x) refl (λ e. filter-fewer f g xs e) e
+    where
+      more : (b c : Bool) → g x ≡ c → (Each (λ x. g x ≡ true) (filter f xs) → length (filter f xs) ≤ length (filter g xs)) → Each (λ x. g x ≡ true) (consIf b x (filter f xs))
+          → length (consIf b x (filter f xs)) ≤ length (consIf c x (filter g xs))
+      more true true q k e = omega (arith, k (e .1))
+      more true false q k e = absurd (true-false (g x) (e .0) q)
+      more false true q k e = omega (arith, k e)
+      more false false q k e = k e
 
   -- ---- all and any
   pub all-each : (p q : A → Bool) (xs : List A) → Each (λ x. p x ≡ q x) xs → all p xs ≡ all q xs

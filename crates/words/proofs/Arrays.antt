@@ -1,11 +1,12 @@
 -- Laws of lists held in arrays of 16 places.
 use Prim.Native.Nat.{ℕ, zero, suc, _+_, _-_, _<_, _≤_}
-use mathlib.Core.Path.{_≡_, refl, sym, ap, _∙_}
+use mathlib.Core.Path.{_≡_, refl, sym, ap, _∙_, subst}
 use mathlib.Core.List.{List, [], _∷_, _++_, map, map-append, append-assoc}
 use native.Mathlib.Omega.{arith}
 use native.Mathlib.Numerals.{add-one}
 use lib.ListN.{length, getD, set, replicate, length-append, length-map, length-replicate}
 use lib.Seq.{set-append-seam, append-snoc}
+use Rattle.semantics.specs.Lists.{Each}
 use Rattle.words.specs.Arrays.{padded}
 
 replicate-more : (n m : ℕ) → m + 1 ≡ n → replicate {A = ℕ} n 0 ≡ 0 ∷ replicate m 0
@@ -55,3 +56,12 @@ padded-at xs i = go xs i (16 - length xs)
     go [] i n = zeros n i
     go (x ∷ xs) zero n = refl
     go (x ∷ xs) (suc i) n = go xs i n
+
+-- what 0 and each element have, every place has
+pub padded-each : (P : ℕ → Type 0) (xs : List ℕ) → Each P xs → P 0 → (i : ℕ) → P (getD (padded xs) i 0)
+padded-each P xs e z i = subst P (sym (padded-at xs i)) (go xs e i)
+  where
+    go : (xs : List ℕ) → Each P xs → (i : ℕ) → P (getD xs i 0)
+    go [] e i = z
+    go (x ∷ xs) e zero = e .0
+    go (x ∷ xs) e (suc i) = go xs (e .1) i
