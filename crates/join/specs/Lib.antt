@@ -1,1 +1,3 @@
 pub mod Positions
+pub mod Answers
+pub mod Results

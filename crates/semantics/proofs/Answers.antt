@@ -8,7 +8,7 @@ use native.Mathlib.Omega.{arith}
 use native.Mathlib.Nat.{div-le-self}
 use lib.ListN.{length, drop, getD}
 use lib.Dec.{eqb, ltb}
-use borrow.Author.Tests.{eq-eqb, lt-ltb, le-ltb, ltb-true, ltb-false}
+use borrow.Author.Tests.{eq-eqb, lt-ltb, le-ltb, ltb-true, ltb-false, ne-eqb}
 use Rattle.semantics.specs.Lists.{concatMap}
 use Rattle.semantics.specs.Files.{Bytes, Table}
 use Rattle.semantics.specs.Plans.{Plan, tables}
@@ -24,7 +24,7 @@ use Rattle.semantics.proofs.Rules.{verdict-cases, rules-number, rules-w
 
 -- ---- past 10
 -- an output never fits more rows than the holding limit counts
-fits-le : (w words : ℕ) → outputFits w words ≤ 1048576
+pub fits-le : (w words : ℕ) → outputFits w words ≤ 1048576
 unfolding outputFits
 fits-le w words = omega (arith, div-le-self (min words 1048576) w)
 
@@ -33,12 +33,20 @@ counted-exact : (D : Base) (p : Plan) (w words : ℕ) → WellBehaved (D .shape)
 unfolding held holdLimit
 counted-exact D p w words h f = omega (arith, counted-results D p h, fits-le w words)
 
-joins-more : (D : Base) (p : Plan) (w : ℕ) (s o : List ℕ) → outputFits w (length o) < length (results D p)
+-- more results than the output fits: 11
+pub joins-more : (D : Base) (p : Plan) (w : ℕ) (s o : List ℕ) → outputFits w (length o) < length (results D p)
     → joinOutcome D p w s o ≡ record { answer = refusal 11 (held (length (results D p))); scratch = zeros s; output = o }
 unfolding joinOutcome
 joins-more D p w s o h = rw (lt-ltb (outputFits w (length o)) (length (results D p)) h, joinOutcome)
 
-joins-all : (D : Base) (p : Plan) (w : ℕ) (s o : List ℕ) → WellBehaved (D .shape) p → length (results D p) ≤ outputFits w (length o)
+-- another number of them than the groups tell: 12
+pub joins-unlike : (D : Base) (p : Plan) (w : ℕ) (s o : List ℕ) → length (results D p) ≤ outputFits w (length o) → (countedTotal D p ≡ length (results D p) → ⊥)
+    → joinOutcome D p w s o ≡ record { answer = refusal 12 0; scratch = zeros s; output = o }
+unfolding joinOutcome
+joins-unlike D p w s o h n = rw (le-ltb (outputFits w (length o)) (length (results D p)) h, ne-eqb (countedTotal D p) (length (results D p)) n, joinOutcome)
+
+-- else they are joined
+pub joins-all : (D : Base) (p : Plan) (w : ℕ) (s o : List ℕ) → WellBehaved (D .shape) p → length (results D p) ≤ outputFits w (length o)
     → joinOutcome D p w s o ≡ record { answer = joinedAnswer D p; scratch = zeros s; output = concatMap (tuple D) (results D p) ++ drop (w * length (results D p)) o }
 unfolding joinOutcome
 joins-all D p w s o b h =
