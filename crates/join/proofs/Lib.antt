@@ -1,3 +1,4 @@
 pub mod Placing
 pub mod FromGroups
 pub mod Answering
+pub mod Calls
