@@ -2,10 +2,10 @@
 use mathlib.Core.Path.{_≡_, refl, sym, ap, ap₂, _∙_}
 use mathlib.Core.Bool.{Bool, true, false, _&&_, _||_, not, and-false, and-comm}
 use mathlib.Core.List.{List, [], _∷_, _++_, map, append-assoc, map-append}
-use Prim.Native.Nat.{ℕ, _+_, _*_, _≤_}
+use Prim.Native.Nat.{ℕ, zero, suc, _+_, _*_, _<_, _≤_}
 use native.Mathlib.Omega.{arith}
 use native.Mathlib.Nat.{zero-add, zero-mul, suc-mul, mul-assoc}
-use lib.ListN.{length, length-append, length-map}
+use lib.ListN.{length, getD, length-append, length-map}
 use lib.Dec.{eqb}
 use borrow.Author.Tests.{eqb-true, eq-eqb, ne-eqb}
 use Rattle.semantics.specs.Lists.{oneIf, Each, same, any, all, sum, product, filter, consIf, onlyIf, nonEmpty, concatMap}
@@ -32,6 +32,11 @@ module _ {A : Type 0} where
   pub Each-split : (P : A → Type 0) (xs ys : List A) → Each P (xs ++ ys) → Each P xs × Each P ys
   Each-split P [] ys e = (tt, e)
   Each-split P (x ∷ xs) ys e = let (a, b) = Each-split P xs ys (e .1) in ((e .0, a), b)
+
+  pub getD-each : (P : A → Type 0) (xs : List A) (i : ℕ) (d : A) → i < length xs → Each P xs → P (getD xs i d)
+  getD-each P [] i d h e = absurd (omega arith)
+  getD-each P (x ∷ xs) zero d h e = e .0
+  getD-each P (x ∷ xs) (suc i) d h e = getD-each P xs i d (omega arith) (e .1)
 
   pub Each-filter : (P : A → Type 0) (p : A → Bool) (xs : List A) → Each P xs → Each P (filter p xs)
   Each-filter P p [] e = tt

@@ -10,7 +10,7 @@ use lib.Dec.{eqb}
 use borrow.Author.Tests.{eqb-true, eqb-false, ne-eqb}
 use Rattle.semantics.specs.Lists.{oneIf, Each, any, sum, filter, onlyIf, concatMap, from, Rising}
 use Rattle.semantics.proofs.Cases.{cases}
-use Rattle.semantics.proofs.Lists.{Each-map, Each-filter}
+use Rattle.semantics.proofs.Lists.{Each-map, Each-filter, filter-append}
 
 pub length-from : (i n : ℕ) → length (from i n) ≡ n
 length-from i zero = refl
@@ -28,6 +28,10 @@ from-split i (suc n) m =
     let e : suc n + m ≡ suc (n + m) = omega arith in
     let z : suc i + n ≡ i + suc n = omega arith in
     ap (from i) e ∙ ap (λ l. i ∷ l) (from-split (suc i) n m ∙ ap (λ j. from (suc i) n ++ from j m) z)
+
+-- one number more
+pub filter-last : (q : ℕ → Bool) (i : ℕ) → filter q (from 0 (i + 1)) ≡ filter q (from 0 i) ++ filter q (i ∷ [])
+filter-last q i = ap (filter q) (from-split 0 i 1) ∙ filter-append q (from 0 i) ((0 + i) ∷ []) ∙ ap (λ j. filter q (from 0 i) ++ filter q (j ∷ [])) (zero-add i)
 
 -- what each number of the row has, each number in its range has
 pub from-at : (P : ℕ → Type 0) (i n a : ℕ) → Each P (from i n) → i ≤ a → a < i + n → P a

@@ -1,10 +1,12 @@
 -- The columns of a table that fits a file lie inside the file.
 use mathlib.Core.Path.{_≡_}
+use mathlib.Core.Bool.{true}
 use Prim.Native.Nat.{ℕ, zero, suc, _+_, _*_, _-_, _≤_, _<_}
-use native.Mathlib.Nat.{mul-le-mul, le-refl, add-zero}
+use native.Mathlib.Nat.{mul-le-mul, le-refl, add-zero, add-mul, one-mul}
 use native.Mathlib.Omega.{arith}
+use borrow.Author.Tests.{eqb-true}
 use Rattle.semantics.specs.Lists.{sum, from, upTo}
-use Rattle.semantics.specs.Files.{bit, onesBelow, arity, columnBytes, columnStart, Fitting}
+use Rattle.semantics.specs.Files.{Table, bit, hasBit, onesBelow, arity, columnBytes, columnStart, Fitting}
 use Rattle.semantics.proofs.Numbers.{sum-last}
 use Rattle.tables.specs.Catalogs.{tableWith}
 
@@ -12,7 +14,7 @@ sum-longer : (f : ℕ → ℕ) (n k : ℕ) → sum f (from 0 n) ≤ sum f (from 
 sum-longer f n zero = rw (add-zero n) (le-refl _)
 sum-longer f n (suc k) = let e : n + suc k ≡ suc (n + k) = omega arith in rw e (omega (arith, sum-longer f n k, sum-last f (n + k)))
 
-pub ones-few : (m a : ℕ) → a < 32 → onesBelow m a ≤ arity m
+ones-few : (m a : ℕ) → a ≤ 32 → onesBelow m a ≤ arity m
 unfolding arity onesBelow upTo
 ones-few m a h = let e : a + (32 - a) ≡ 32 = omega arith in rw e at (sum-longer (bit m) a (32 - a))
 
@@ -20,10 +22,26 @@ ones-few m a h = let e : a + (32 - a) ≡ 32 = omega arith in rw e at (sum-longe
 pub column-inside : (size m n start a k : ℕ) → (a < 32) × Fitting size (tableWith m n start) → k ≡ onesBelow m a → start + 4 * (k * n) ≤ size
 unfolding columnBytes
 column-inside size m n start a k (h, f) e =
-    let fewer : k ≤ arity m = omega (arith, ones-few m a h) in
+    let fewer : k ≤ arity m = omega (arith, ones-few m a (omega arith)) in
     let shorter : k * n ≤ arity m * n = mul-le-mul {n₁ = k} {m₁ = n} {n₂ = arity m} {m₂ = n} fewer (le-refl n) in
     omega (arith, f .inside)
 
 pub column-place : (m n start a k : ℕ) → k ≡ onesBelow m a → start + 4 * (k * n) ≡ columnStart (tableWith m n start) a
 unfolding columnStart
 column-place m n start a k e = rw e
+
+-- ---- the column of an attribute that the table has
+one : (m a : ℕ) → hasBit m a ≡ true → bit m a ≡ 1
+unfolding hasBit
+one m a b = eqb-true (bit m a) 1 b
+
+ones-more : (m a : ℕ) → a < 32 → hasBit m a ≡ true → onesBelow m a + 1 ≤ arity m
+ones-more m a h b =
+    let s : onesBelow m (suc a) ≡ onesBelow m a + bit m a = unfold onesBelow upTo in sum-last (bit m) a in
+    omega (arith, ones-few m (suc a) (omega arith), s, one m a b)
+
+pub column-fits : (size : ℕ) (t : Table) (a : ℕ) → Fitting size t → a < 32 → hasBit (t .mask) a ≡ true → columnStart t a + 4 * t .rows ≤ size
+unfolding columnStart columnBytes
+column-fits size t a f h b =
+    let q : (onesBelow (t .mask) a + 1) * t .rows ≤ arity (t .mask) * t .rows = mul-le-mul (ones-more (t .mask) a h b) (le-refl (t .rows)) in
+    omega (arith, f .inside, q, add-mul (onesBelow (t .mask) a) 1 (t .rows), one-mul (t .rows))

@@ -142,14 +142,6 @@ pub fn column_start(file: &[u8], mask: u32, rows: usize, start: usize, attribute
     start + 4 * (words::ones_below(mask, attribute) as usize * rows)
 }
 
-// The column at an offset: the part of the file that starts there.
-pub fn column(file: &[u8], at: usize) -> &[u8]
-    requires { ⌜ at ≤ length (now file) ⌝ }
-    ensures { λ r. ⌜ now r ≡ drop at (now (file .entry)) ⌝ }
-{
-    &file[at..]
-}
-
 // The value of a row in a column. No other function of the library reads an attribute value.
 pub fn value(column: &[u8], row: usize) -> u32
     requires { ⌜ 4 * row + 4 ≤ length (now column) ⌝ }
