@@ -5,3 +5,4 @@ pub mod Steps
 pub mod Catalogs
 pub mod Reached
 pub mod Columns
+pub mod Widths

@@ -1,10 +1,13 @@
 -- What the code gives for what `semantics` defines: the catalog of tables, the end of a reading, one record.
+use mathlib.Core.Path.{_≡_}
 use mathlib.Core.Bool.{true, false}
 use mathlib.Core.List.{List, map}
 use Prim.Native.Nat.{ℕ, _-_}
-use lib.ListN.{length}
+use lib.ListN.{length, take}
 use lib.Dec.{leb}
-use Rattle.semantics.specs.Files.{Table, cutMark, tableMark, planMark, otherMark, nextMark, TableRecord, broken, whole, nextTable, Ending, fault, planBytes, planRecord, read}
+use Rattle.semantics.specs.Lists.{any}
+use Rattle.semantics.specs.Files.{Table, hasBit, cutMark, tableMark, planMark, otherMark, nextMark, TableRecord, broken, whole, nextTable, Ending, fault, planBytes, planRecord, read}
+use Rattle.semantics.specs.Shapes.{width}
 use Rattle.words.specs.Arrays.{padded}
 use Rattle.tables.specs.declared.Catalog.{Catalog}
 use Rattle.tables.specs.declared.Contents.{Contents}
@@ -42,3 +45,11 @@ contentsOf bytes = record { catalog = catalogOf ((read bytes) .tables); end = en
 
 abbrev pub tableWith : ℕ → ℕ → ℕ → Table
 tableWith mask rows start = record { mask = mask; rows = rows; start = start }
+
+-- w of a file: the number of attributes in all of its tables together
+abbrev pub fileWidth : List ℕ → ℕ
+fileWidth bytes = width ((read bytes) .tables)
+
+-- the mask has the attributes of the first n masks, and no others
+abbrev pub AttributesOf : List ℕ → ℕ → ℕ → Type 0
+AttributesOf masks n mask = (a : ℕ) → hasBit mask a ≡ any (λ m. hasBit m a) (take n masks)

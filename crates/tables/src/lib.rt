@@ -5,7 +5,7 @@ ghost use Prim.Native.Nat.{_+_, _*_, _-_, _<_, _≤_, _^_};
 ghost use lib.ListN.{length, drop, getD};
 ghost use lib.Dec.{eqb};
 ghost use Rattle.semantics.specs.Files.{wordAt, columnStart, Fitting, nextTable, planRecord};
-ghost use Rattle.tables.specs.Catalogs.{endOf, tableOf, recordOf, contentsOf, tableWith};
+ghost use Rattle.tables.specs.Catalogs.{endOf, tableOf, recordOf, contentsOf, tableWith, fileWidth, AttributesOf};
 
 // The tables of a file, in file order. The places past the last table are 0.
 pub struct Catalog {
@@ -132,6 +132,30 @@ pub fn read(file: &[u8]) -> Contents
             }
         }
     }
+}
+
+// The attributes of the first `count` masks together.
+fn attributes_of(masks: &[u32; 16], count: usize) -> u32
+    requires { ⌜ (count ≤ 16) × (count ≤ length (now masks)) ⌝ }
+    ensures { λ r. ⌜ AttributesOf (now (masks .entry)) count r ⌝ }
+{
+    let mut all: u32 = 0;
+    let mut i = 0;
+    while i < count {
+        all |= masks[i];
+        i += 1;
+    }
+    all
+}
+
+// The number of attributes in all tables of a file together. Where the reading ends at a fault, in those before it.
+pub fn width(file: &[u8]) -> usize
+    ensures { λ r. ⌜ r ≡ fileWidth (now (file .entry)) ⌝ }
+{
+    let contents = read(file);
+    let catalog = contents.catalog;
+    let masks = catalog.masks;
+    words::ones(attributes_of(&masks, catalog.count)) as usize
 }
 
 // The offset of an attribute's column in the file.
