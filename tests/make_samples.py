@@ -1,0 +1,356 @@
+#!/usr/bin/env python3
+"""Writes the samples of the test program and what it must print; the same bytes at every run.
+
+    python3 tests/make_samples.py
+
+writes, from the top of the repository (standard library of Python only):
+
+- crates/samples/data/NAME: one sample. Its first 4 bytes are the words of scratch to lend, the next 4 the words of output
+  (little-endian), and the rest is the file to join: `tail -c +9 crates/samples/data/NAME` is that file alone.
+- crates/samples/args: the names, in the order in which the test program goes through them.
+- crates/samples/stdout: for each sample its name, the answer as the program prints it, and what scratch and output hold
+  after the call. The answers come from reference.py, which tries every choice and shares no code with the library.
+- crates/pigrozd/stdin and crates/pigrozd/stdout: document 01's sample file and its print.
+
+To add a sample, add a line to a function below and run this again.
+"""
+import itertools
+import os
+import random
+
+import reference
+
+TOP = os.path.join(os.path.dirname(os.path.abspath(__file__)), os.pardir)
+LARGEST = 4294967295
+BEFORE = 2779096485  # what the test program fills both buffers with; no sample may hold it as a value
+
+samples = []
+
+
+def sample(name, data, scratch=1000, output=300):
+    assert all(name != other for other, *_ in samples), name
+    samples.append((name, data, scratch, output))
+
+
+# ---- files
+def word(n):
+    return n.to_bytes(4, "little")
+
+
+def record(mask, rows, *columns):
+    """A table record as its fields say, whole or not."""
+    return b"TB" + word(mask) + word(rows) + b"".join(word(v) for column in columns for v in column)
+
+
+def table(attributes, *rows):
+    """A table with these attributes, rising, and these rows."""
+    assert list(attributes) == sorted(set(attributes))
+    assert all(len(row) == len(attributes) and BEFORE not in row for row in rows)
+    return record(sum(1 << a for a in attributes), len(rows), *zip(*rows))
+
+
+def plan(*code):
+    return b"PL" + bytes([len(code)]) + bytes(code)
+
+
+def file(tables, *code):
+    return b"".join(tables) + plan(*code)
+
+
+FF = 255
+FRAMES = table((0, 1), (10, 1), (11, 2), (12, 2), (13, 4))
+EXPOSURES = table((1, 2), (1, 7), (2, 8), (2, 9), (3, 7))
+READINGS = table((2, 3), (7, 29510), (7, 29510), (9, 29530))
+BENCH = (FRAMES, EXPOSURES, READINGS)
+P1 = file(BENCH, FF, 0, FF, 1, 2)
+ONE = table((0,), (5,))  # one row that holds 5 in attribute 0
+
+
+# ---- document 01's samples
+def bench_samples():
+    assert len(P1) == 126
+    sample("p1_sample_file", P1, 16384, 16384)
+    sample("p2_second_and_third_table_swapped", file(BENCH, FF, 0, FF, 2, 1))
+    sample("p3_left_plan_joined_first", file(BENCH, FF, FF, 0, 1, 2))
+    sample("p4_plan_names_one_table", file(BENCH, 0))
+    sample("p5_plan_ends_early", file(BENCH, FF, 0))
+    sample("p6_byte_behind_a_whole_plan", file(BENCH, FF, 0, 1, 2))
+    sample("p7_table_named_twice", file(BENCH, FF, 0, FF, 0, 1))
+    sample("p8_empty_file", b"")
+    sample("p9_scratch_of_95_words", P1, 95)
+    sample("p9_scratch_of_96_words", P1, 96)
+    sample("p10_output_of_15_words", P1, 1000, 15)
+    sample("p10_output_of_16_words", P1, 1000, 16)
+    sample("p11_no_rows_no_buffers", file([table((0,))], 0), 0, 0)
+    sample("p12_every_pair_matches", file([table((0,), (5,), (5,)), table((1,), (6,), (7,))], FF, 0, 1))
+
+
+# ---- answers 1 to 6
+def cut_samples():
+    places = {
+        "mark": 1, "mask_field": 5, "row_count": 9, "first_column": 20, "last_column": 41, "second_mark": 43,
+        "second_mask_field": 47, "third_table": 100, "plan_mark": 119, "plan_bytes": 123,
+    }
+    for place, at in places.items():
+        sample("cut_in_" + place, P1[:at])
+    sample("cut_in_row_count_with_nine_attributes", record(511, 0)[:9])
+    sample("cut_in_row_count_of_4097", record(1, 4097)[:9])
+    sample("cut_behind_mark", P1[:2])
+    sample("cut_before_columns", P1[:10])
+    sample("cut_between_tables", P1[:42])
+    sample("cut_before_plan", P1[:118])
+    sample("cut_before_plan_length", P1[:120])
+    sample("cut_before_plan_bytes", P1[:121])
+    sample("cut_before_last_byte", P1[:125])
+
+
+def record_samples():
+    sample("mark_first_byte_other", b"SB" + P1[2:])
+    sample("mark_second_byte_other", b"TC" + P1[2:])
+    sample("mark_of_both_kinds_mixed", b"TL" + P1[2:])
+    sample("mark_reversed", b"BT" + P1[2:])
+    sample("mark_of_second_record_other", P1[:42] + b"tb" + P1[44:])
+    sample("mark_of_plan_reversed", P1[:118] + b"LP" + P1[120:])
+    sample("attributes_none", record(0, 1, [5]) + plan(0))
+    sample("attributes_one", file([ONE], 0))
+    sample("attributes_eight", file([table(range(8), range(1, 9), range(11, 19))], 0))
+    sample("attributes_eight_spread", file([table((0, 3, 7, 12, 19, 24, 30, 31), range(8), range(8))], 0))
+    sample("attributes_nine", file([table(range(9), range(9))], 0))
+    sample("attributes_all_32", file([table(range(32), range(32))], 0))
+    sample("attributes_nine_and_rows_4097", record(511, 4097))
+    sample("rows_4097", record(1, 4097) + plan(0))
+    sample("rows_4097_in_the_second_table", ONE + record(1, 4097))
+    sample("rows_largest", record(1, LARGEST) + plan(0))
+    sample("rows_4096_not_there", record(1, 4096) + plan(0))
+    sample("rows_none_in_eight_columns", file([table(range(8))], 0))
+    chain = [FF] * 15 + list(range(16))
+    sample("tables_16", file([ONE] * 16, *chain))
+    sample("tables_17", file([ONE] * 17, *([FF] + chain), 16))
+    sample("tables_17_last_only_a_mark", b"".join([ONE] * 16) + b"TB")
+    sample("tables_16_and_half_a_mark", b"".join([ONE] * 16) + b"T")
+    sample("tables_16_and_another_mark", b"".join([ONE] * 16) + b"TT")
+    sample("tables_none", plan(0))
+    sample("behind_plan_one_byte", P1 + b"\0")
+    sample("behind_plan_a_table", P1 + ONE)
+    sample("behind_plan_a_plan", P1 + plan(0))
+    sample("plan_before_tables", plan(0) + ONE)
+    sample("fault_of_second_table_first_one_whole", ONE + record(0, 1, [5]) + record(1, 4097))
+
+
+# ---- answers 7 to 11
+def plan_samples():
+    sample("plan_of_no_bytes", file(BENCH))
+    sample("plan_of_ff_alone", file(BENCH, FF))
+    sample("plan_of_255_ff", file(BENCH, *[FF] * 255))
+    sample("plan_ends_early_inside", file(BENCH, FF, FF, 0, 1))
+    sample("plan_with_byte_16", file(BENCH, FF, 0, FF, 16, 2))
+    sample("plan_with_byte_254", file(BENCH, 254, 0, FF, 1, 2))
+    sample("plan_misspelled_and_misnamed", file(BENCH, FF, 9, 17))
+    sample("plan_of_two_plans", file(BENCH, 0, 1))
+    sample("plan_names_absent_table_3", file(BENCH, FF, 0, FF, 1, 3))
+    sample("plan_names_absent_table_15", file([ONE], 15))
+    sample("plan_names_twice_before_absent", file(BENCH, FF, FF, 1, 1, 9))
+    sample("plan_leaves_a_table_out", file(BENCH, FF, 0, 1))
+    sample("plan_misnamed_and_ill_behaved", file(BENCH, FF, FF, 0, 2, 2))
+    pieces = [table((0,), (5,)), table((1,), (6,)), table((1, 2), (6, 7)), table((2,), (7,))]
+    sample("ill_behaved_at_an_inner_join", file(pieces, FF, 0, FF, FF, 1, 2, 3))
+    sample("ill_behaved_at_the_left_leftmost", file(BENCH, FF, FF, 2, 1, 0))
+    sample("ill_behaved_at_outer_and_inner_join", file(BENCH + (table((3,), (29510,)),), FF, FF, 0, FF, 2, 1, 3))
+    twice = BENCH + tuple(table((a, a + 1), (1, 2)) for a in (10, 11, 12))
+    sample("ill_behaved_in_both_plans", file(twice, FF, FF, 0, FF, 2, 1, FF, 3, FF, 5, 4))
+    sample("ill_behaved_in_the_right_plan", file(twice, FF, FF, 0, FF, 1, 2, FF, 3, FF, 5, 4))
+    sample("well_behaved_from_the_middle", file(BENCH, FF, FF, 1, 0, 2))
+    sample("well_behaved_backwards", file(BENCH, FF, 2, FF, 1, 0))
+    triangle = [table((0, 1), (1, 2)), table((1, 2), (2, 3)), table((0, 2), (1, 3))]
+    sample("ill_behaved_triangle", file(triangle, FF, FF, 0, 1, 2))
+
+
+def buffer_samples():
+    code = [FF] * 4 + list(range(5))
+    star = lively("star", 5, code)
+    need = reference.outcome(file(star, *code), 0, 0)[1]
+    sample("scratch_exact_for_five_tables", file(star, *code), need, 5000)
+    sample("scratch_one_short_for_five_tables", file(star, *code), need - 1, 5000)
+    sample("scratch_none", P1, 0)
+    sample("scratch_and_output_large", P1, 65536, 65536)
+    sample("scratch_short_and_output_short", P1, 95, 15)
+    sample("output_none", P1, 1000, 0)
+    sample("output_none_for_no_results", file([table((0,), (1,)), table((0,), (2,))], FF, 0, 1), 1000, 0)
+    sample("output_of_one_word_more", P1, 1000, 17)
+    sample("output_of_19_words", P1, 1000, 19)
+    pairs = [table((0,), *[(i,) for i in range(20)]), table((0, 1), *[(i, i) for i in range(0, 40, 13)])]
+    sample("output_smaller_than_the_table_sizes", file(pairs, FF, 0, 1), 1000, 4)
+    sample("output_one_row_short_of_few", file(pairs, FF, 0, 1), 1000, 3)
+    apart = [table((a,), *[(i,) for i in range(8)]) for a in range(4)]
+    sample("results_4096_of_four_tables_apart", file(apart, FF, FF, 0, 1, FF, 2, 3), 1000, 300)
+    sample("results_2_to_the_32", file([table((a,), *[(i,) for i in range(16)]) for a in range(8)], *right_deep(8)), 5000)
+    same = [table((0,), *[(5,)] * 16)] * 9
+    sample("results_held_in_the_groups", file(same, *right_deep(9)), 5000, 300)
+    sample("results_held_from_the_left", file(same, *[FF] * 8, *range(9)), 5000, 300)
+
+
+# ---- keys and rows
+def key_samples():
+    for k in range(9):
+        shared = list(range(0, 2 * k, 2))
+        left, right = ([], []) if k == 8 else ([17], [18])
+        base = [7 * a + 1 for a in shared]
+        rows = [base, [v + 1 for v in base]]
+        rows += [base[:i] + [base[i] + 64] + base[i + 1:] for i in range(k)]  # one attribute differs
+        lefts = [row + [100 + i] * len(left) for i, row in enumerate(rows)]
+        rights = [row + [200 + i] * len(right) for i, row in enumerate(rows[::-1] + [base])]
+        names = ("no", "one", "two", "three", "four", "five", "six", "seven", "eight")
+        sample("key_of_%s_attributes" % names[k], file([table(shared + left, *lefts), table(shared + right, *rights)], FF, 0, 1))
+    sample("key_on_attribute_31", file([table((0, 31), (1, LARGEST), (2, 3), (4, 0)), table((1, 31), (8, 3), (9, LARGEST))], FF, 0, 1))
+    high = [(i << 16,) for i in range(40)]  # a path of 16 nodes before any bit differs
+    sample("key_shares_low_bits", file([table((0,), *high[::3]), table((0,), *high)], FF, 0, 1))
+    tops = [(0,), (1 << 31,), (1 << 30,), (3 << 30,), (1 << 29,), (5 << 29,)]
+    sample("key_differs_in_highest_bits", file([table((0,), *tops), table((0,), *tops)], FF, 0, 1))
+    second = [(9, i) for i in range(40)] + [(9 + (1 << 31), i) for i in range(8)]  # a path of 31 nodes before any bit differs
+    sample("key_shares_first_word", file([table((0, 1), *second[::3]), table((0, 1), *second[::-1])], FF, 0, 1))
+    last = [(1, 2, 3, 4, 5, 6, 7, i * i) for i in range(260)]  # the same with seven words
+    sample("key_shares_seven_words", file([table(range(8), *last[::100]), table(range(8), *last)], FF, 0, 1), 5000)
+    sample("key_words_swapped", file([table((0, 1), (1, 2), (2, 1), (1, 1)), table((0, 1), (2, 1), (2, 2), (1, 2))], FF, 0, 1))
+    sample("key_values_0_and_largest", file([table((0,), (0,), (LARGEST,)), table((0,), (LARGEST,), (0,), (LARGEST,))], FF, 0, 1))
+    sample("key_that_no_other_table_holds", file([table((0, 1), (1, 1), (2, 2)), table((1, 2), (3, 1), (4, 2))], FF, 0, 1))
+    sample("key_bytes_all_differ", file([table((0,), (0x01020304,), (0x04030201,)), table((0, 1), (0x04030201, 0x0A0B0C0D), (0x01020304, 1))], FF, 0, 1))
+    inner = [table((0, 1), (1, 5), (2, 6), (2, 5)), table((0, 2), (1, 7), (2, 8), (2, 9)), table((0, 1), (2, 6), (1, 5), (2, 7))]
+    sample("key_from_whole_plans_not_neighbours", file(inner, FF, FF, 0, 1, 2))
+    tree = [(i * 2654435761) % 4093 for i in range(4096)]
+    sample("rows_4096_looked_up", file([table((0,), *[(v,) for v in tree]), table((0, 1), (tree[0], 7), (tree[4095], 8), (5000, 9))], FF, 0, 1), 40000)
+    sample("rows_4096_entered", file([table((0, 1), (tree[9], 7), (5000, 8), (tree[2000], 9)), table((0,), *[(v,) for v in tree])], FF, 0, 1), 40000)
+    sample("rows_4096_and_an_empty_table", file([table((0,), *[(v,) for v in tree]), table((0,))], FF, 0, 1), 40000)
+
+
+def row_samples():
+    sample("one_table_repeated_rows", file([table((0, 2), (3, 4), (1, 2), (3, 4), (1, 2))], 0))
+    sample("left_table_empty", file([table((0, 1)), EXPOSURES], FF, 0, 1))
+    sample("right_table_empty", file([FRAMES, table((1, 2))], FF, 0, 1))
+    sample("both_tables_empty", file([table((0, 1)), table((1, 2))], FF, 0, 1))
+    sample("middle_table_empty", file([FRAMES, table((1, 2)), READINGS], FF, 0, FF, 1, 2))
+    sample("empty_table_apart", file([FRAMES, table((5,)), EXPOSURES], FF, FF, 0, 1, 2))
+    fives, more = table((0,), (5,), (5,)), table((0,), (4,), (5,), (5,))
+    sample("repeated_rows_in_three_tables", file([fives, more, fives], FF, FF, 0, 1, 2))
+    sample("repeated_rows_right_deep", file([fives, more, fives], FF, 0, FF, 1, 2))
+    sample("repeated_rows_of_one_key", file([table((0, 1), (5, 1), (5, 1)), table((0, 2), (5, 2), (5, 2), (5, 2))], FF, 0, 1))
+    lookups = [table((0, 1), (1, 10), (2, 11), (3, 12), (1, 13)), table((0, 2), (1, 20), (3, 21), (1, 22))]
+    sample("slip_failed_lookup_between_two", file(lookups, FF, 0, 1))
+    sample("slip_failed_lookup_first_and_last", file([table((0, 1), (9, 1), (1, 2), (8, 3)), lookups[1]], FF, 0, 1))
+    first = table((0, 1), (1, 1), (2, 2), (3, 3))
+    sample("slip_row_lost_at_first_join", file([first, table((0,), (1,), (3,)), table((1, 2), (1, 6), (2, 7), (3, 8))], FF, FF, 0, 1, 2))
+    sample("slip_row_lost_at_second_join", file([first, table((1, 2), (1, 6), (2, 7), (3, 8)), table((0,), (1,), (3,))], FF, FF, 0, 1, 2))
+    sample("slip_row_lost_inside_the_right_plan", file([first, table((1, 2), (1, 6), (2, 7), (2, 6)), table((2,), (6,))], FF, 0, FF, 1, 2))
+    sample("slip_neighbouring_tables_share_less", file([table((0, 1), (1, 5), (1, 6)), table((1, 2), (5, 8), (6, 8)), table((0, 1), (1, 6))], FF, FF, 0, 1, 2))
+    partners = [table((0, 1), *[(i % 3, i) for i in range(6)]), table((0, 2), *[(i % 3, 10 + i) for i in range(6)])]
+    sample("partner_of_each_row_its_own", file(partners, FF, 0, 1))
+    sample("order_by_the_plan_not_the_file", file(partners, FF, 1, 0))
+    sample("order_within_a_group_rises", file([table((0,), (1,), (1,)), table((0, 1), (1, 9), (2, 8), (1, 7), (1, 8))], FF, 0, 1))
+
+
+# ---- many tables
+def right_deep(n):
+    return [b for t in range(n - 1) for b in (FF, t)] + [n - 1]
+
+
+def few_values(draw, attribute_lists):
+    """Tables with these attributes and 2 to 4 rows of few values, so that some rows match and some do not."""
+    return [table(attributes, *[[draw(3) for a in attributes] for y in range(2 + draw(3))]) for attributes in attribute_lists]
+
+
+def lively(kind, n, code):
+    """The first n tables of a kind, as the draws go on, that have 4 to 60 results."""
+    for seed in itertools.count():
+        attributes = {"chain": lambda t: (t, t + 1), "star": lambda t: (0, t + 1), "comb": lambda t: ((t + 1) // 2, 8 + t, 20)}[kind]
+        tables = few_values(random.Random(seed).randrange, map(attributes, range(n)))
+        if 4 <= len(reference.outcome(file(tables, *code), 65536, 65536)[2]) <= 60:
+            return tables
+
+
+def many_table_samples():
+    chain, star = lively("chain", 5, right_deep(5)), lively("star", 5, right_deep(5))
+    sample("five_tables_chain_right_deep", file(chain, *right_deep(5)), 1000, 5000)
+    sample("five_tables_chain_from_the_middle", file(chain, FF, FF, 2, FF, 1, 0, FF, 3, 4), 1000, 5000)
+    sample("five_tables_chain_backwards", file(chain, FF, 4, FF, 3, FF, 2, FF, 1, 0), 1000, 5000)
+    sample("five_tables_chain_left_deep", file(chain, FF, FF, FF, FF, 0, 1, 2, 3, 4), 1000, 5000)
+    sample("five_tables_star_left_deep", file(star, FF, FF, FF, FF, 0, 1, 2, 3, 4), 1000, 5000)
+    sample("five_tables_star_right_deep", file(star, *right_deep(5)), 1000, 5000)
+    sample("five_tables_star_bushy", file(star, FF, FF, 3, 1, FF, FF, 4, 0, 2), 1000, 5000)
+    six, comb = lively("chain", 6, right_deep(6)), lively("comb", 6, right_deep(6))
+    sample("six_tables_chain_right_deep", file(six, *right_deep(6)), 1000, 5000)
+    sample("six_tables_chain_bushy", file(six, FF, FF, 2, FF, 1, 0, FF, 3, FF, 4, 5), 1000, 5000)
+    sample("six_tables_chain_output_short", file(six, *right_deep(6)), 1000, 21)
+    sample("six_tables_keys_of_one_and_two", file(comb, *right_deep(6)), 1000, 5000)
+    mixed = [FF, FF, FF, 0, 5, FF, 3, 4, FF, 2, 1]
+    sample("six_tables_star_mixed", file(lively("star", 6, mixed), *mixed), 1000, 5000)
+    pairs = [table((t, t + 1), (1, 1), (t % 3, 2)) if t % 5 == 0 else table((t, t + 1), (1, 1)) for t in range(16)]
+    for t in range(1, 17):
+        sample("tables_%d_in_a_row" % t, file(pairs[:t], *right_deep(t)), 1000, 300)
+    alike = [table((0,), (5,), (6,)) if t % 4 == 1 else table((0,), (5,)) for t in range(16)]
+    sample("tables_16_of_one_attribute", file(alike, *[FF] * 15, *range(15, -1, -1)), 1000, 300)
+
+
+# ---- trees of tables, drawn
+def drawn_tree(draw, n):
+    """Attributes of n tables: each later one shares up to two with one before it, and has one or two of its own."""
+    held, free = [], iter(range(32))
+    for t in range(n):
+        old = held[draw(t)] if t else []
+        held.append(sorted({old[draw(len(old))] for i in range(draw(3)) if old} | {next(free) for i in range(1 + draw(2))}))
+    return held
+
+
+def drawn_plan(draw, tables):
+    if len(tables) == 1:
+        return tables
+    at = 1 + draw(len(tables) - 1)
+    return [FF] + drawn_plan(draw, tables[:at]) + drawn_plan(draw, tables[at:])
+
+
+def tree_samples():
+    """Files that are within the rules, in whatever order the plan was drawn."""
+    count = dict.fromkeys(range(3, 8), 0)
+    for seed in itertools.count():
+        draw = random.Random(1000 + seed).randrange
+        n = 3 + seed % 5
+        tables = few_values(draw, drawn_tree(draw, n))
+        data = file(tables, *drawn_plan(draw, sorted(range(n), key=lambda t: draw(1000))))
+        if 2 <= len(reference.outcome(data, 65536, 65536)[2]) <= 40 and count[n] < 5:
+            count[n] += 1
+            sample("tree_of_%d_tables_%d" % (n, count[n]), data, 1000, 1000)
+        if min(count.values()) == 5:
+            return
+
+
+# ---- the files
+def write(path, data):
+    with open(os.path.join(TOP, path), "wb") as f:
+        f.write(data)
+
+
+def after(answer, scratch):
+    """What the test program says of the buffers after a call."""
+    state = "empty" if scratch == 0 else "zero" if answer[0] in (0, 11, 12) else "unchanged"
+    return "scratch %s, output %d words written, rest unchanged\n" % (state, sum(map(len, answer[2])))
+
+
+def main():
+    for make in (bench_samples, cut_samples, record_samples, plan_samples, buffer_samples, key_samples, row_samples, many_table_samples, tree_samples):
+        make()
+    folder = os.path.join(TOP, "crates/samples/data")
+    os.makedirs(folder, exist_ok=True)
+    for old in os.listdir(folder):
+        os.remove(os.path.join(folder, old))
+    text = ""
+    for name, data, scratch, output in samples:
+        assert scratch <= 65536 and output <= 65536 and len(data) <= 65536, name
+        write("crates/samples/data/" + name, word(scratch) + word(output) + data)
+        answer = reference.outcome(data, scratch, output)
+        text += name + "\n" + reference.lines(answer) + after(answer, scratch)
+    write("crates/samples/args", "".join(name + "\n" for name, *_ in samples).encode())
+    write("crates/samples/stdout", text.encode())
+    write("crates/pigrozd/stdin", P1)
+    write("crates/pigrozd/stdout", reference.printed(P1).encode())
+
+
+if __name__ == "__main__":
+    main()
