@@ -2,6 +2,7 @@
 // written out when they are full and at the end.
 //
 // No contract can say what is written. Each index is tested here, so nothing rests on what the join promises.
+ghost use Rattle.report.specs.Calls.{Called};
 
 // An answer as numbers.
 struct Figures {
@@ -142,7 +143,9 @@ fn figures_of(answer: join::Answer) -> Figures {
 }
 
 // Joins a file and prints the answer: the rows and the steps, or the refusal.
-pub fn report(file: &[u8], scratch: &mut [u32], output: &mut [u32]) {
+pub fn report(file: &[u8], scratch: &mut [u32], output: &mut [u32])
+    ensures { λ _. ⌜ Called (now (file .entry)) (now (scratch .entry)) (now (output .entry)) (now (scratch .exit)) (now (output .exit)) ⌝ }
+{
     let figures = figures_of(join::join(file, scratch, output));
     let number = figures.number;
     match number {
