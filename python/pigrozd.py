@@ -209,8 +209,8 @@ def library():
 def lent(buffer):
     """A writable buffer as the words at its address, and how many there are."""
     view = memoryview(buffer)
-    if not view.contiguous or view.itemsize != 4:
-        raise TypeError("scratch and output are contiguous buffers of 32-bit words")
+    if view.itemsize != 4:
+        raise TypeError("scratch and output are buffers of 32-bit words")
     count = view.nbytes // 4
     if count == 0:
         return (ctypes.c_uint32 * 1)(), 0  # an address all the same

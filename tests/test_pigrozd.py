@@ -110,6 +110,9 @@ class Columns(unittest.TestCase):
         self.check(memoryview(words(7, 1, 0, 1, 4294967295, 1, 7, 1))[::2])
         self.check(memoryview(words(*self.VALUES))[::-1], self.VALUES[::-1])
 
+    def test_order_of_attributes_is_free(self):
+        self.assertEqual(list(pigrozd.join([{9: [1, 2], 0: [3, 4], 5: [5, 6]}], 0)), [(3, 5, 1), (4, 6, 2)])
+
     def test_result_as_column(self):
         first = pigrozd.join(SAMPLE[:2], (0, 1))
         self.assertEqual(list(pigrozd.join([first.columns, READINGS], (0, 1))), ROWS)
@@ -268,7 +271,7 @@ class Calls(unittest.TestCase):
         file = pigrozd.make_file(SAMPLE, PLAN)
         good = words(*range(100))
         with self.assertRaises(TypeError):
-            pigrozd.call(file, bytes(400), good)
+            pigrozd.call(file, bytearray(400), good)
         with self.assertRaises(TypeError):
             pigrozd.call(file, memoryview(bytes(400)).cast("I"), good)
         with self.assertRaises(TypeError):
@@ -283,10 +286,18 @@ class Calls(unittest.TestCase):
         self.assertEqual(pigrozd.call(file, memoryview(good)[:60], memoryview(good)[60:]).number, 10)
 
     def test_two_halves_of_one_buffer(self):
+        file, values = pigrozd.make_file(SAMPLE, PLAN), words(*(v for row in ROWS for v in row))
         both = words(BEFORE) * 112
-        answer = pigrozd.call(pigrozd.make_file(SAMPLE, PLAN), memoryview(both)[:96], memoryview(both)[96:])
-        self.assertEqual(answer, (0, 0, 4, 6, 8, 19, 10))
-        self.assertEqual(both, words(0) * 96 + words(*(v for row in ROWS for v in row)))
+        answer = pigrozd.call(file, memoryview(both)[:96], memoryview(both)[96:])
+        self.assertEqual((answer, both), ((0, 0, 4, 6, 8, 19, 10), words(0) * 96 + values))
+        both = words(BEFORE) * 112
+        answer = pigrozd.call(file, memoryview(both)[16:], memoryview(both)[:16])
+        self.assertEqual((answer, both), ((0, 0, 4, 6, 8, 19, 10), values + words(0) * 96))
+
+    def test_no_word_lent_is_no_null_pointer(self):
+        lent, count = pigrozd.lent(words())
+        self.assertEqual(count, 0)
+        self.assertNotEqual(ctypes.addressof(lent), 0)
 
 
 class Library(unittest.TestCase):
