@@ -10,3 +10,37 @@ test:
 	rt ci
 
 .PHONY: run test
+
+# make lib builds the library for C and what calls C: target/lib/libpigrozd.a and libpigrozd.so; include/pigrozd.h declares it.
+# make check-users tests what users call: a part of it for each kind of user.
+LIB = target/lib
+EXAMPLES = target/examples
+SOURCES = $(shell find crates -name '*.rt' -o -name '*.antt')
+STRICT = -std=c99 -pedantic -Wall -Wextra -Werror
+
+lib: $(LIB)/libpigrozd.a $(LIB)/libpigrozd.so
+
+$(LIB)/libpigrozd.a: crates.txt $(SOURCES)
+	rt staticlib capi
+	mkdir -p $(LIB)
+	cp target/staticlib/libcapi.a $@
+
+$(LIB)/libpigrozd.so: $(LIB)/libpigrozd.a
+	$(CC) -shared -Wl,-soname,libpigrozd.so -Wl,-z,defs -o $@ -Wl,--whole-archive $< -Wl,--no-whole-archive
+
+check-users: check-c check-python
+
+# The example with either library, against its expected output.
+check-c: lib
+	mkdir -p $(EXAMPLES)
+	$(CC) $(STRICT) -Iinclude -o $(EXAMPLES)/join_sample examples/c/join_sample.c $(LIB)/libpigrozd.a
+	$(EXAMPLES)/join_sample > $(EXAMPLES)/printed
+	diff examples/c/expected $(EXAMPLES)/printed
+	$(CC) $(STRICT) -Iinclude -o $(EXAMPLES)/join_sample_shared examples/c/join_sample.c -L$(LIB) -lpigrozd
+	LD_LIBRARY_PATH=$(LIB) $(EXAMPLES)/join_sample_shared > $(EXAMPLES)/printed
+	diff examples/c/expected $(EXAMPLES)/printed
+
+check-python: lib
+	python3 -m unittest tests/test_pigrozd.py
+
+.PHONY: lib check-users check-c check-python

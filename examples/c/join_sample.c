@@ -1,0 +1,93 @@
+/* Joins the sample of document 01, made here from columns, and prints what the program pigrozd prints of it.
+ *
+ *     cc -Iinclude -o join_sample examples/c/join_sample.c target/lib/libpigrozd.a
+ */
+#include <inttypes.h>
+#include <stdio.h>
+#include <stdlib.h>
+
+#include "pigrozd.h"
+
+/* Attributes: 0 frame, 1 exposure, 2 reading, 3 hundredths of a kelvin. */
+enum { WIDTH = 4 };
+
+/* The columns of each table, one behind the other, attributes rising. */
+static const uint32_t frames[] = {10, 11, 12, 13, 1, 2, 2, 4};
+static const uint32_t exposures[] = {1, 2, 2, 3, 7, 8, 9, 7};
+static const uint32_t readings[] = {7, 7, 9, 29510, 29510, 29530};
+
+/* frames with (exposures with readings): 255 is a join, and the left and the right plan follow. */
+static const uint8_t plan[] = {255, 0, 255, 1, 2};
+
+static uint8_t file[1024];
+static size_t length;
+
+static void put_byte(uint8_t byte)
+{
+    file[length++] = byte;
+}
+
+static void put_word(uint32_t word)
+{
+    int i;
+    for (i = 0; i < 4; i++)
+        put_byte((uint8_t)(word >> (8 * i)));
+}
+
+/* mask: bit i for attribute i. */
+static void put_table(uint32_t mask, uint32_t rows, const uint32_t *values, size_t count)
+{
+    size_t i;
+    put_byte('T');
+    put_byte('B');
+    put_word(mask);
+    put_word(rows);
+    for (i = 0; i < count; i++)
+        put_word(values[i]);
+}
+
+static void put_plan(void)
+{
+    size_t i;
+    put_byte('P');
+    put_byte('L');
+    put_byte(sizeof plan);
+    for (i = 0; i < sizeof plan; i++)
+        put_byte(plan[i]);
+}
+
+int main(void)
+{
+    static uint32_t output[64];
+    uint32_t nothing = 0, *scratch = &nothing;
+    pigrozd_answer answer;
+    size_t i, j;
+
+    put_table(3, 4, frames, 8);
+    put_table(6, 4, exposures, 8);
+    put_table(12, 3, readings, 6);
+    put_plan();
+
+    /* Asked without scratch, the join says how much it needs. */
+    answer = pigrozd_join(file, length, scratch, 0, output, 64);
+    if (answer.number == 10) {
+        size_t words = answer.detail;
+        scratch = malloc(4 * words);
+        if (scratch == NULL)
+            return 1;
+        answer = pigrozd_join(file, length, scratch, words, output, 64);
+        free(scratch);
+    }
+
+    if (answer.number != 0) {
+        printf("refused %" PRIu64 " %" PRIu64 "\n", answer.number, answer.detail);
+        return 1;
+    }
+    printf("rows %" PRIu64 "\n", answer.rows);
+    for (i = 0; i < answer.rows; i++)
+        for (j = 0; j < WIDTH; j++)
+            printf("%" PRIu32 "%c", output[WIDTH * i + j], j + 1 < WIDTH ? ' ' : '\n');
+    printf("steps %" PRIu64 " %" PRIu64 " %" PRIu64 " %" PRIu64 "\n",
+           answer.entries, answer.lookups, answer.comparisons, answer.visits);
+    return 0;
+}
