@@ -10,3 +10,9 @@ test:
 	rt ci
 
 .PHONY: run test
+
+# the tests of tools/tables and tools/plan; Python alone
+check-tools:
+	python3 -m unittest tests/test_tools.py
+
+.PHONY: check-tools

@@ -17,6 +17,7 @@ class Trouble(Exception):
 
 def run(main):
     """Runs a tool: a Trouble is one line on standard error and status 1; a reader that stops early is no trouble."""
+    sys.stdout.reconfigure(encoding="utf-8", errors="surrogateescape")  # whatever the locale: CSV files and names are UTF-8
     try:
         status = main(sys.argv[1:])
         sys.stdout.flush()

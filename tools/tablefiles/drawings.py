@@ -20,7 +20,7 @@ class Drawing:
     def join(self, join):
         """A join in words: its key, the two tables that are compared, whether it is well-behaved."""
         key = self.names.list(plans.key(join, self.tables))
-        left, right = (plans.tables_of(side)[0] for side in (join.left, join.right))
+        firsts = (plans.tables_of(side)[0] for side in (join.left, join.right))
         why = plans.why_broken(join, self.tables, self.names)
         if why:
             why = "NOT well-behaved: " + why
@@ -29,7 +29,7 @@ class Drawing:
         else:
             why = "well-behaved: no attribute is on both sides"
         return ["join on %s, byte %d of the plan" % (key or "nothing (every pair matches)", join.index),
-                "%s (%s) looked up in %s (%s)" % (self.names.table(left), self.rows(left), self.names.table(right), self.rows(right)),
+                " looked up in ".join("%s (%s)" % (self.names.table(t), self.rows(t)) for t in firsts),
                 why]
 
     def broken(self):

@@ -55,8 +55,8 @@ class Dump:
         self.field(at, at + 2, lambda a, b: "mark of a table")
         mask, rows = records.number_at(data, at + 2), records.number_at(data, at + 6)
         attributes = records.attributes_of(mask)
-        self.field(at + 2, at + 6, lambda a, b: "cut" if b < at + 6 else
-                   "mask %d: %s" % (mask, "attributes " + ", ".join(map(self.attribute, attributes)) if attributes else "no attributes"))
+        named = "attributes " + ", ".join(map(self.attribute, attributes)) if attributes else "no attributes"
+        self.field(at + 2, at + 6, lambda a, b: "cut" if b < at + 6 else "mask %d: %s" % (mask, named))
         self.field(at + 6, at + 10, lambda a, b: "cut" if b < at + 10 else count(rows, "row"))
         if len(data) < at + 10 or not 1 <= len(attributes) <= 8 or rows > 4096:
             return at + 10
@@ -141,7 +141,7 @@ def summary(path, file, names):
     if file.fault:
         lines = [first, str(file.fault)]
     else:
-        lines = [first, "within the rules: no answer from 1 to 9 is due; 10 is due with less than {} of scratch; a result has {}".format(
+        lines = [first, "within the rules: no answer from 1 to 9 is due; the scratch needed is %s, a result has %s" % (
             count(plans.words_needed(file.plan, file.tables), "word"), count(len(plans.width(file.tables)), "value"))]
     if len(file.data) > records.PROGRAM_BYTES:
         lines.append("the program says 13: it takes files of at most 65,536 bytes")

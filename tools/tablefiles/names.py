@@ -45,7 +45,7 @@ def fault_of_attribute_name(name):
 
 def fault_of_table_name(name):
     """What is wrong with a name for a table, or None. It is also the name of a file in a folder."""
-    if not name or name in (".", "..") or re.search(r'[/\\"\0\r\n]', name):
+    if not name or name in (".", "..") or re.search(r'[/\\"\0\r\n\ud800-\udfff]', name):
         return "%r cannot be the name of a table" % name
     return None
 

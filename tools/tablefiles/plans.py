@@ -156,8 +156,8 @@ def lacking(join, tables):
 
 def why_broken(join, tables, names):
     """Why this join is not well-behaved, in words; empty if it is."""
-    return "; ".join("%s, the first table of the %s plan, has no %s" % (names.table(t), side, " and no ".join(map(names.attribute, lacks)))
-                     for side, t, lacks in lacking(join, tables))
+    return "; ".join("%s, the first table of the %s plan, has no %s" % (
+        names.table(t), side, " and no ".join(map(names.attribute, lacks))) for side, t, lacks in lacking(join, tables))
 
 
 def words_needed(plan, tables):

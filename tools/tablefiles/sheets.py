@@ -10,7 +10,7 @@ VALUE = re.compile("0*([0-9]{1,10})")
 
 
 class Sheet:
-    """A CSV file: the table's name, the names of its attributes, its rows as texts with the lines they end on."""
+    """A CSV file: the table's name, the names of its attributes, its rows as texts with the lines they begin on."""
 
     def __init__(self, path):
         self.path, self.name = path, os.path.splitext(os.path.basename(path))[0]
@@ -31,12 +31,12 @@ def read(path):
     fault = fault_of_table_name(sheet.name)
     if fault:
         raise Trouble("%s: %s" % (path, fault))
-    line = 1
+    end = 0  # the line on which the row before ends
     try:
         with open(path, encoding="utf-8-sig", newline="") as f:
             reader = csv.reader(f, strict=True)
             for cells in reader:
-                line = reader.line_num
+                line, end = end + 1, reader.line_num
                 if not cells:  # an empty line
                     continue
                 if not sheet.header:
@@ -52,7 +52,7 @@ def read(path):
     except OSError as error:
         raise Trouble("%s: %s" % (path, error.strerror))
     except UnicodeDecodeError:
-        raise Trouble("%s, behind line %d: not UTF-8 text" % (path, line))
+        raise Trouble("%s, behind line %d: not UTF-8 text" % (path, end))
     except csv.Error as error:
         raise Trouble("%s, line %d: not CSV: %s" % (path, reader.line_num, error))
     if not sheet.header:
