@@ -28,7 +28,7 @@ $(LIB)/libpigrozd.a: crates.txt $(SOURCES)
 $(LIB)/libpigrozd.so: $(LIB)/libpigrozd.a
 	$(CC) -shared -Wl,-soname,libpigrozd.so -Wl,-z,defs -o $@ -Wl,--whole-archive $< -Wl,--no-whole-archive
 
-check-users: check-c check-python
+check-users: check-c check-python check-tools
 
 # The example with either library, against its expected output.
 check-c: lib
@@ -43,4 +43,9 @@ check-c: lib
 check-python: lib
 	python3 -m unittest tests/test_pigrozd.py
 
-.PHONY: lib check-users check-c check-python
+
+# The tools for tables and plans: Python alone.
+check-tools:
+	python3 -m unittest tests/test_tools.py
+
+.PHONY: lib check-users check-c check-python check-tools
