@@ -49,3 +49,18 @@ check-tools:
 	python3 -m unittest tests/test_tools.py
 
 .PHONY: lib check-users check-c check-python check-tools
+
+# make bench measures the join beside an unproved twin, a HashMap join and SQLite (docs/PERFORMANCE.md); make check-bench says only
+# whether they agree. Both need cargo and Debian's sqlite3, the instructions valgrind too.
+BENCH = target/bench/release/bench
+
+$(BENCH): lib $(wildcard bench/src/*.rs)
+	cargo build --quiet --release --offline --manifest-path bench/Cargo.toml --target-dir target/bench
+
+bench: $(BENCH)
+	$(BENCH)
+
+check-bench: $(BENCH)
+	$(BENCH) --check
+
+.PHONY: bench check-bench

@@ -1,0 +1,135 @@
+//! SQLite in memory, through its C library. The tables are loaded and the statement is prepared before the time is taken; a run
+//! steps through all rows and reads every value.
+
+use std::ffi::{c_char, c_int, c_void, CStr, CString};
+use std::ptr::null_mut;
+
+use crate::inputs::Input;
+
+#[repr(C)]
+struct Database(c_void);
+
+#[repr(C)]
+struct Statement(c_void);
+
+extern "C" {
+    fn sqlite3_open(name: *const c_char, database: *mut *mut Database) -> c_int;
+    fn sqlite3_close(database: *mut Database) -> c_int;
+    fn sqlite3_errmsg(database: *mut Database) -> *const c_char;
+    fn sqlite3_libversion() -> *const c_char;
+    fn sqlite3_prepare_v2(
+        database: *mut Database,
+        sql: *const c_char,
+        length: c_int,
+        statement: *mut *mut Statement,
+        tail: *mut *const c_char,
+    ) -> c_int;
+    fn sqlite3_bind_int64(statement: *mut Statement, index: c_int, value: i64) -> c_int;
+    fn sqlite3_step(statement: *mut Statement) -> c_int;
+    fn sqlite3_reset(statement: *mut Statement) -> c_int;
+    fn sqlite3_column_int64(statement: *mut Statement, index: c_int) -> i64;
+    fn sqlite3_finalize(statement: *mut Statement) -> c_int;
+}
+
+const ROW: c_int = 100;
+const DONE: c_int = 101;
+
+pub fn version() -> String {
+    unsafe { CStr::from_ptr(sqlite3_libversion()) }.to_string_lossy().into_owned()
+}
+
+#[derive(Clone, Copy, PartialEq)]
+pub enum Order {
+    /// CROSS JOIN keeps SQLite to the plan's order of tables.
+    Forced,
+    Free,
+}
+
+/// A loaded database and its prepared join.
+pub struct Query {
+    database: *mut Database,
+    statement: *mut Statement,
+    width: usize,
+}
+
+unsafe fn prepare(database: *mut Database, sql: &str) -> *mut Statement {
+    let text = CString::new(sql).unwrap();
+    let mut statement = null_mut();
+    let code = sqlite3_prepare_v2(database, text.as_ptr(), -1, &mut statement, null_mut());
+    assert_eq!(code, 0, "{sql}: {:?}", CStr::from_ptr(sqlite3_errmsg(database)));
+    statement
+}
+
+unsafe fn execute(database: *mut Database, sql: &str) {
+    let statement = prepare(database, sql);
+    assert_eq!(sqlite3_step(statement), DONE);
+    sqlite3_finalize(statement);
+}
+
+fn select(input: &Input, order: Order) -> String {
+    let tables = input.plan.order();
+    let first_with = |a: u32| tables.iter().position(|&t| input.tables[t].attributes.contains(&a));
+    let values: Vec<String> = (0..32).filter_map(|a| first_with(a).map(|i| format!("t{}.a{a}", tables[i]))).collect();
+    let mut sql = format!("SELECT {} FROM t{}", values.join(", "), tables[0]);
+    for (i, &t) in tables.iter().enumerate().skip(1) {
+        let equal: Vec<String> = input.tables[t]
+            .attributes
+            .iter()
+            .filter_map(|&a| first_with(a).filter(|&f| f < i).map(|f| format!("t{}.a{a} = t{t}.a{a}", tables[f])))
+            .collect();
+        sql += if order == Order::Forced { " CROSS JOIN " } else { " JOIN " };
+        sql += &format!("t{t}");
+        if !equal.is_empty() {
+            sql += &format!(" ON {}", equal.join(" AND "));
+        }
+    }
+    sql
+}
+
+impl Query {
+    pub fn new(input: &Input, order: Order) -> Query {
+        unsafe {
+            let mut database = null_mut();
+            assert_eq!(sqlite3_open(c":memory:".as_ptr(), &mut database), 0);
+            execute(database, "BEGIN");
+            for (t, table) in input.tables.iter().enumerate() {
+                let names: Vec<String> = table.attributes.iter().map(|a| format!("a{a} INTEGER")).collect();
+                execute(database, &format!("CREATE TABLE t{t}({})", names.join(", ")));
+                let marks = vec!["?"; names.len()].join(", ");
+                let insert = prepare(database, &format!("INSERT INTO t{t} VALUES({marks})"));
+                for y in 0..table.rows() {
+                    for (c, column) in table.columns.iter().enumerate() {
+                        sqlite3_bind_int64(insert, c as c_int + 1, column[y] as i64);
+                    }
+                    assert_eq!(sqlite3_step(insert), DONE);
+                    sqlite3_reset(insert);
+                }
+                sqlite3_finalize(insert);
+            }
+            execute(database, "COMMIT");
+            let statement = prepare(database, &select(input, order));
+            Query { database, statement, width: input.width }
+        }
+    }
+
+    /// The results' values, one row behind the other, in SQLite's order.
+    pub fn run(&mut self) -> Vec<u32> {
+        let mut values = Vec::new();
+        unsafe {
+            while sqlite3_step(self.statement) == ROW {
+                values.extend((0..self.width).map(|c| sqlite3_column_int64(self.statement, c as c_int) as u32));
+            }
+            assert_eq!(sqlite3_reset(self.statement), 0);
+        }
+        values
+    }
+}
+
+impl Drop for Query {
+    fn drop(&mut self) {
+        unsafe {
+            sqlite3_finalize(self.statement);
+            sqlite3_close(self.database);
+        }
+    }
+}
