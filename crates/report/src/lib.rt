@@ -112,7 +112,7 @@ fn print_joined(file: &[u8], output: &[u32], figures: Figures) {
     write(&text, end);
 }
 
-// Prints a refusal.
+// Prints a refusal. It is lent nothing and gives nothing back, so there is no outcome to state.
 pub fn refuse(number: u32, detail: usize) {
     let mut text = [0u8; 4096];
     let end = put_line(&mut text, 0, b"refused", &[wide(number), detail as u64]);
