@@ -2,6 +2,7 @@ pub mod Reading
 pub mod Names
 pub mod Places
 pub mod Judging
+pub mod Lent
 pub mod Growing
 pub mod Scheduling
 pub mod Whole

@@ -1,31 +1,25 @@
 -- Answer 10, and the schedule that an admitted plan gets.
-use Prim.Native.Nat.{ℕ, zero, suc, _+_, _*_, _<_, _≤_}
+use Prim.Native.Nat.{ℕ, _+_, _*_, _<_, _≤_}
 use mathlib.Core.Path.{_≡_, refl, sym, ap, ap₂, _∙_}
-use mathlib.Core.Bool.{true, false}
-use mathlib.Core.List.{List, [], _∷_, _++_, map}
-use mathlib.Core.Option.{none, some}
+use mathlib.Core.List.{List, [], map}
 use native.Mathlib.Omega.{arith}
 use lib.ListN.{length, getD, List·getD-append}
-use lib.Dec.{ltb}
 use borrow.Author.Tests.{lt-ltb, le-ltb}
-use Rattle.semantics.specs.Lists.{sum}
 use Rattle.semantics.specs.Files.{Table}
-use Rattle.semantics.specs.Plans.{Plan, scan, join, tables, leftmost, Small, misplaced, planOf, misnamed}
-use Rattle.semantics.specs.Shapes.{noTable, shapeOf, illBehaved, rowsIn, leftRows, scratchNeed}
-use Rattle.semantics.specs.Outcome.{Verdict, refused, admitted, planVerdict, scratchVerdict, WithinRules}
+use Rattle.semantics.specs.Plans.{Plan, scan, join, tables, leftmost, misplaced, planOf, misnamed}
+use Rattle.semantics.specs.Shapes.{noTable, shapeOf, illBehaved, scratchNeed}
+use Rattle.semantics.specs.Outcome.{admitted, planVerdict, scratchVerdict, WithinRules}
 use Rattle.semantics.proofs.Cases.{option-cases}
 use Rattle.semantics.proofs.Rules.{verdict-cases, tables-count, rows-count, plan-within}
 use Rattle.words.specs.Arrays.{padded}
-use Rattle.words.proofs.Arrays.{padded-at, padded-length}
+use Rattle.words.proofs.Arrays.{padded-at}
 use Rattle.tables.specs.declared.Catalog.{Catalog}
-use Rattle.tables.specs.Catalogs.{catalogOf}
 use Rattle.plans.specs.declared.schedule.Schedule.{Schedule}
 use Rattle.plans.specs.declared.admission.Verdict.{Verdict as Decision}
 use Rattle.plans.specs.declared.admission.Verdict.the-variants as decision
-use Rattle.plans.specs.declared.admission.Admission.{Admission}
 use Rattle.plans.specs.Places.{PlanAt}
-use Rattle.plans.specs.Schedules.{joins, storage, scheduleWith, scheduleOf, noSchedule, Plannable}
-use Rattle.plans.specs.Admissions.{Tabled, Catalogued, Admits, Accepted, verdictOf, scheduleFor, planAdmission}
+use Rattle.plans.specs.Schedules.{storage, scheduleWith, scheduleOf, noSchedule, Plannable}
+use Rattle.plans.specs.Admissions.{Tabled, Catalogued, Admits, Accepted, verdictOf, planAdmission}
 use Rattle.plans.proofs.Places.{spelled-stands}
 use Rattle.plans.proofs.Scheduling.{tables-some}
 use Rattle.plans.proofs.Whole.{leftmost-small, joins-tables, storage-le, storage-need}
@@ -61,19 +55,14 @@ module _ (c : Catalog) (code : List ℕ) (ts : List Table) (h : Tabled c ts) (a 
     unfolding scheduleOf scheduleWith
     used-is = ap (λ x. x .used) schedule-is
 
-    order-length : length (s .order) ≡ 16
-    unfolding scheduleOf scheduleWith
-    order-length = ap (λ x. length (x .order)) schedule-is ∙ padded-length (tables (planOf code)) few
-
     first-rows : getD (c .rows) (getD (s .order) 0 0) 0 ≡ getD (c .rows) (leftmost (planOf code)) 0
     first-rows = ap (λ t. getD (c .rows) t 0) first-is
 
-    pub countable : (getD (s .order) 0 0 < 16) × (s .used + 8 * getD (c .rows) (getD (s .order) 0 0) 0 ≤ 4294967296) × (length (s .order) ≡ 16)
+    pub countable : (getD (s .order) 0 0 < 16) × (s .used + 8 * getD (c .rows) (getD (s .order) 0 0) 0 ≤ 4294967296)
     countable =
         let lo : leftmost (planOf code) < 16 = leftmost-small (planOf code) (within .small) in (
           omega (arith, first-is),
           omega (arith, first-rows, used-is, counts (leftmost (planOf code)) lo, storage-le (c .rows) counts (planOf code) (within .small), joins-tables (planOf code), few),
-          order-length,
         )
 
     -- the words counted are document 01's need

@@ -14,8 +14,9 @@ use Rattle.tables.specs.Catalogs.{catalogOf}
 use Rattle.plans.specs.declared.schedule.Schedule.{Schedule}
 use Rattle.plans.specs.declared.admission.Verdict.{Verdict as Decision}
 use Rattle.plans.specs.declared.admission.Verdict.the-variants as decision
+use Rattle.plans.specs.declared.admission.Ruling.{Ruling}
 use Rattle.plans.specs.declared.admission.Admission.{Admission}
-use Rattle.plans.specs.Schedules.{noSchedule, scheduleOf}
+use Rattle.plans.specs.Schedules.{scheduleIn, noSchedule, scheduleOf}
 
 -- the catalog holds these tables, as a file within the rules has them
 pub record Tabled (c : Catalog) (ts : List Table) : Type 0 where
@@ -46,6 +47,14 @@ verdictOf (admitted ts p) = decision.Admitted
 abbrev pub scheduleFor : Verdict → Schedule
 scheduleFor (refused n d) = noSchedule
 scheduleFor (admitted ts p) = scheduleOf (padded (map (λ t. t .mask) ts)) (padded (map (λ t. t .rows) ts)) p
+
+-- a refusal, with nothing scheduled
+abbrev pub refusalOf : ℕ → ℕ → Ruling
+refusalOf n d = record { verdict = decision.Refused n d; counts = record { joins = 0; tables = 0; used = 0 } }
+
+-- the admission that a ruling gives with the catalog, and with the schedule that stands in these lists
+abbrev pub admissionIn : Ruling → Catalog → List ℕ → List (List ℕ) → Admission
+admissionIn r c keys lists = record { verdict = r .verdict; catalog = c; schedule = scheduleIn (r .counts) keys lists }
 
 -- the answers 7 to 10 for the plan's bytes, the tables of a file and a scratch of that many words
 unfoldable pub planAdmission : List Table → List ℕ → ℕ → Admission

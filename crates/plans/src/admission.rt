@@ -5,16 +5,21 @@ ghost use mathlib.Core.List.{List};
 ghost use Prim.Native.Nat.{ℕ, _+_, _<_, _≤_};
 ghost use Rattle.semantics.specs.Files.{Table};
 ghost use Rattle.semantics.specs.Outcome.{planVerdict, scratchVerdict};
-ghost use Rattle.plans.specs.Admissions.{Tabled, Catalogued, Admits, Accepted, verdictOf, planAdmission, admissionOf};
+ghost use Rattle.plans.specs.Admissions.{Tabled, Catalogued, Admits, Accepted, verdictOf, refusalOf, admissionIn, planAdmission, admissionOf};
+ghost use Rattle.plans.specs.Schedules.{Blank};
+ghost use Rattle.tables.specs.Catalogs.{contentsOf};
 use crate::behaviour::first_ill_behaved;
 use crate::naming::first_misnamed;
+use crate::schedule::Counts;
+use crate::schedule::ORDER;
 use crate::schedule::Schedule;
-use crate::schedule::no_schedule;
+use crate::schedule::schedule_in;
 use crate::schedule::schedule_of;
 use crate::schedule::words_needed;
 use crate::spelling::Found;
 use crate::spelling::first_misplaced;
 use tables::Catalog;
+use tables::Contents;
 use tables::End;
 
 // Refused with a number and its detail, or admitted.
@@ -28,6 +33,26 @@ pub struct Admission {
     pub verdict: Verdict,
     pub catalog: Catalog,
     pub schedule: Schedule,
+}
+
+// The verdict, and how much is scheduled: nothing where the file is refused.
+pub struct Ruling {
+    pub verdict: Verdict,
+    pub counts: Counts,
+}
+
+// A refusal, with nothing scheduled.
+fn refusal(number: u32, detail: usize) -> Ruling
+    ensures { λ r. ⌜ r ≡ refusalOf number detail ⌝ }
+{
+    Ruling {
+        verdict: Verdict::Refused(number, detail),
+        counts: Counts {
+            joins: 0,
+            tables: 0,
+            used: 0,
+        },
+    }
 }
 
 // Answers 7, 8 and 9, in this order, for the plan's bytes and the tables of a file.
@@ -52,58 +77,84 @@ fn plan_verdict(code: &[u8], catalog: Catalog) -> Verdict
     Verdict::Admitted
 }
 
-// The schedule of an admitted plan, or 10 where the scratch has too few words.
-fn with_scratch(code: &[u8], catalog: Catalog, words: usize) -> Admission
-    requires { ⌜ Accepted (now code) catalog ⌝ }
-    ensures { λ r. ⌜ ((ts : List Table) → Tabled catalog ts → Admits (now (code .entry)) ts → r ≡ planAdmission ts (now (code .entry)) words) ⌝ }
+// The schedule of an admitted plan, or 10 where the scratch has too few words. The keys and lists are 0 before, and after 10.
+fn with_scratch(
+    code: &[u8],
+    catalog: Catalog,
+    words: usize,
+    keys: &mut [u32; 16],
+    lists: &mut [[usize; 16]; 8],
+) -> Ruling
+    requires { ⌜ Accepted (now code) catalog × Blank (now keys) (now lists) ⌝ }
+    ensures { λ r. ⌜ ((ts : List Table) → Tabled catalog ts → Admits (now (code .entry)) ts → admissionIn r catalog (now (keys .exit)) (now (lists .exit)) ≡ planAdmission ts (now (code .entry)) words) ⌝ }
 {
     let masks = catalog.masks;
     let rows = catalog.rows;
-    let schedule = schedule_of(code, &masks, &rows);
-    let need = words_needed(schedule, &rows);
+    let counts = schedule_of(code, &masks, &rows, &mut *keys, &mut *lists);
+    let need = words_needed(counts.used, lists[ORDER][0], &rows);
     if words < need {
-        return Admission {
-            verdict: Verdict::Refused(10, need),
-            catalog,
-            schedule: no_schedule(),
-        };
+        *keys = [0u32; 16];
+        *lists = [[0usize; 16]; 8];
+        return refusal(10, need);
     }
-    Admission {
+    Ruling {
         verdict: Verdict::Admitted,
-        catalog,
-        schedule,
+        counts,
     }
 }
 
 // Answers 7 to 10 for the plan's bytes and the tables of a file.
-fn admit_plan(code: &[u8], catalog: Catalog, words: usize) -> Admission
-    requires { ⌜ Catalogued catalog ⌝ }
-    ensures { λ r. ⌜ ((ts : List Table) → Tabled catalog ts → r ≡ planAdmission ts (now (code .entry)) words) ⌝ }
+fn admit_plan(
+    code: &[u8],
+    catalog: Catalog,
+    words: usize,
+    keys: &mut [u32; 16],
+    lists: &mut [[usize; 16]; 8],
+) -> Ruling
+    requires { ⌜ Catalogued catalog × Blank (now keys) (now lists) ⌝ }
+    ensures { λ r. ⌜ ((ts : List Table) → Tabled catalog ts → admissionIn r catalog (now (keys .exit)) (now (lists .exit)) ≡ planAdmission ts (now (code .entry)) words) ⌝ }
 {
     let verdict = plan_verdict(code, catalog);
     match verdict {
-        Verdict::Refused(n, d) => Admission {
-            verdict: Verdict::Refused(n, d),
-            catalog,
-            schedule: no_schedule(),
-        },
-        Verdict::Admitted => with_scratch(code, catalog, words),
+        Verdict::Refused(n, d) => refusal(n, d),
+        Verdict::Admitted => with_scratch(code, catalog, words, keys, lists),
     }
 }
 
-// Answers 1 to 10 for a file and a scratch of that many words, or the catalog and the schedule.
+// Answers 1 to 10 for a file that is read.
+fn rule(
+    file: &[u8],
+    contents: Contents,
+    words: usize,
+    keys: &mut [u32; 16],
+    lists: &mut [[usize; 16]; 8],
+) -> Ruling
+    requires { ⌜ (contents ≡ contentsOf (now file)) × Blank (now keys) (now lists) ⌝ }
+    ensures { λ r. ⌜ admissionIn r (contents .catalog) (now (keys .exit)) (now (lists .exit)) ≡ admissionOf (now (file .entry)) words ⌝ }
+{
+    let catalog = contents.catalog;
+    let end = contents.end;
+    match end {
+        End::Fault(n, d) => refusal(n, d),
+        End::Plan(at) => admit_plan(&file[at..], catalog, words, keys, lists),
+    }
+}
+
+// Answers 1 to 10 for a file and a scratch of that many words, or the catalog and the schedule. The admission is made here and
+// nowhere else, so that catalog and schedule are copied once.
 pub fn admit(file: &[u8], words: usize) -> Admission
     ensures { λ r. ⌜ r ≡ admissionOf (now (file .entry)) words ⌝ }
 {
     let contents = tables::read(file);
     let catalog = contents.catalog;
-    let end = contents.end;
-    match end {
-        End::Fault(n, d) => Admission {
-            verdict: Verdict::Refused(n, d),
-            catalog,
-            schedule: no_schedule(),
-        },
-        End::Plan(at) => admit_plan(&file[at..], catalog, words),
+    let mut keys = [0u32; 16];
+    let mut lists = [[0usize; 16]; 8];
+    let ruling = rule(file, contents, words, &mut keys, &mut lists);
+    let verdict = ruling.verdict;
+    let schedule = schedule_in(ruling.counts, &keys, &lists);
+    Admission {
+        verdict,
+        catalog,
+        schedule,
     }
 }

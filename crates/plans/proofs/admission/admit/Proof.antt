@@ -1,7 +1,3 @@
-use native.Mathlib.Omega.{arith}
-use Rattle.semantics.proofs.Reading.{bytes-of}
-use Rattle.words.proofs.Parts.{rest}
-use Rattle.plans.proofs.Verdicts.{catalogued, file-refused, plan-inside, file-planned}
 use borrow.Author.Needs.{needs}
 use Rattle.plans.proofs.admission.admit.Statement.{statement}
 use Rattle.plans.proofs.admission.admit.Tie as tie
@@ -9,46 +5,14 @@ use Rattle.plans.proofs.admission.admit.Tie as tie
 read-requires : tie.Need-read-requires
 read-requires c κs = search needs
 
-enum-known-end : tie.Need-enum-known-end
-enum-known-end c = search needs
+rule-requires : tie.Need-rule-requires
+rule-requires c κs = search needs
 
-no-schedule-requires : tie.Need-no-schedule-requires
-no-schedule-requires c κs = search needs
-
-enum-known-end-2 : tie.Need-enum-known-end-2
-enum-known-end-2 c = search needs
-
-sub-admit-plan : tie.Need-sub-admit-plan
-sub-admit-plan c = plan-inside _ _ (c .before .before .before .before .read .ensures) _ (c .before .end2 .given .1)
-
-part-admit-plan-start : tie.Need-part-admit-plan-start
-part-admit-plan-start c = plan-inside _ _ (c .before .before .before .before .read .ensures) _ (c .before .end2 .given .1)
-
-part-admit-plan-end : tie.Need-part-admit-plan-end
-part-admit-plan-end c = search needs
-
-admit-plan-requires : tie.Need-admit-plan-requires
-admit-plan-requires c κs = catalogued _ _ (c .before .before .before .before .before .read .ensures) (bytes-of (c .before .before .before .before .before .before .before .args .file .now) (λ i. omega (arith, c .before .before .before .before .before .before .shared-slice-known .given i)))
+schedule-in-requires : tie.Need-schedule-in-requires
+schedule-in-requires c κs = search needs
 
 returns : tie.Need-returns
-returns c = file-refused _ _ (c .before .before .before .before .before .read .ensures) _ _ _ (c .before .before .end .given .1) _ (c .no-schedule .ensures)
-
-returns-2 : tie.Need-returns-2
-returns-2 c = let file = c .before .before .before .before .before .before .before .before .args .file .now in
-    file-planned file _ (c .before .before .before .before .before .before .read .ensures) (bytes-of file (λ i. omega (arith, c .before .before .before .before .before .before .before .shared-slice-known .given i))) _ _ (c .before .before .before .end2 .given .1) _
-    (rw (rest file (c .before .before .before .end2 .given .0 .0)) at (c .admit-plan .ensures))
+returns c = rw (c .schedule-in .ensures) (c .before .before .before .rule .ensures)
 
 pub admit-spec : {M : Type 1} → statement M
-admit-spec =
-    tie.close
-    (tie.spec
-    read-requires
-    enum-known-end
-    no-schedule-requires
-    enum-known-end-2
-    sub-admit-plan
-    part-admit-plan-start
-    part-admit-plan-end
-    admit-plan-requires
-    returns
-    returns-2)
+admit-spec = tie.close (tie.spec read-requires rule-requires schedule-in-requires returns)
