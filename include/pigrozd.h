@@ -5,7 +5,7 @@
  * - file has file_bytes readable bytes; scratch and output have scratch_words and output_words writable words of 32 bits,
  *   aligned to 4 bytes.
  * - The three do not overlap, and nothing else writes to them during the call.
- * - 128 KB of stack are free (measured, for 16 tables: 88 KB).
+ * - 64 KB of stack are free (measured: 31 KB at most, for a plan of 255 bytes FF; 15 KB for 16 tables).
  * Nothing is asked of what they hold. The function calls nothing but memcpy and memset and keeps nothing, so that calls with
  * buffers of their own may run side by side.
  *
