@@ -77,7 +77,7 @@ fn judge(code: &[u8], masks: &[u32; 16], at: usize) -> Subplan
 }
 
 // The first FF whose join breaks the rule, in bytes that spell a plan.
-pub fn first_ill_behaved(code: &[u8], masks: &[u32; 16]) -> Found
+pub(crate) fn first_ill_behaved(code: &[u8], masks: &[u32; 16]) -> Found
     requires { ⌜ Planned (now code) 0 ⌝ }
     ensures { λ r. ⌜ ((S : Shape) → Masked (now (masks .entry)) S → (p : Plan) → PlanAt (now (code .entry)) 0 p (length (now (code .entry))) → r ≡ foundOf (illBehaved S p 0)) ⌝ }
 {

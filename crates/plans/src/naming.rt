@@ -7,7 +7,7 @@ ghost use Rattle.plans.specs.Spelling.{foundOf};
 use crate::spelling::Found;
 
 // The first byte that names a table that is absent, of that many, or already named; the end where a table is not named.
-pub fn first_misnamed(code: &[u8], tables: usize) -> Found
+pub(crate) fn first_misnamed(code: &[u8], tables: usize) -> Found
     requires { ⌜ tables ≤ 16 ⌝ }
     ensures { λ r. ⌜ r ≡ foundOf (misnamed tables [] 0 (now (code .entry))) ⌝ }
 {

@@ -39,7 +39,7 @@ fn read_plan(code: &[u8], at: usize) -> PlanEnd
 }
 
 // The first byte that cannot stand where it stands, or the end where the plan ends early.
-pub fn first_misplaced(code: &[u8]) -> Found
+pub(crate) fn first_misplaced(code: &[u8]) -> Found
     ensures { λ r. ⌜ r ≡ foundOf (misplaced 1 0 (now (code .entry))) ⌝ }
 {
     let end = read_plan(code, 0);

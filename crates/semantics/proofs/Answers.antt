@@ -1,21 +1,20 @@
 -- What the parts come to for the outcome of a call: when each answer is given, what the buffers hold after it, that 12 is
 -- never given, and demand 3's bound.
-use mathlib.Core.Path.{_≡_, refl, sym, ap, _∙_}
-use mathlib.Core.Bool.{true, false}
-use mathlib.Core.List.{List, [], _∷_, _++_}
-use Prim.Native.Nat.{ℕ, _+_, _*_, _/_, _^_, _≤_, _<_, min}
+use mathlib.Core.Path.{_≡_, refl}
+use mathlib.Core.List.{List, [], _++_}
+use Prim.Native.Nat.{ℕ, _+_, _*_, _≤_, _<_, min}
 use native.Mathlib.Omega.{arith}
 use native.Mathlib.Nat.{div-le-self}
 use lib.ListN.{length, drop, getD}
-use lib.Dec.{eqb, ltb}
-use borrow.Author.Tests.{eq-eqb, lt-ltb, le-ltb, ltb-true, ltb-false, ne-eqb}
+use lib.Dec.{ltb}
+use borrow.Author.Tests.{eq-eqb, lt-ltb, le-ltb, ltb-true, ltb-false}
 use Rattle.semantics.specs.Lists.{concatMap}
 use Rattle.semantics.specs.Files.{Bytes, Table}
-use Rattle.semantics.specs.Plans.{Plan, tables}
-use Rattle.semantics.specs.Shapes.{noTable, shapeOf, WellBehaved, widestKey, rowsIn, width, scratchNeed, outputFits}
+use Rattle.semantics.specs.Plans.{Plan}
+use Rattle.semantics.specs.Shapes.{noTable, WellBehaved, width, scratchNeed, outputFits}
 use Rattle.semantics.specs.Results.{Base, Pick, baseOf, results, tuple}
 use Rattle.semantics.specs.Totals.{holdLimit, held, countedTotal}
-use Rattle.semantics.specs.Outcome.{Answer, Outcome, refusal, Verdict, refused, admitted, rulesVerdict, scratchVerdict, verdict, WithinRules, zeros, joinedAnswer, joinOutcome, outcome, Figures, figuresOf, noFigures, figures, WithinBound}
+use Rattle.semantics.specs.Outcome.{Outcome, refusal, refused, admitted, rulesVerdict, scratchVerdict, verdict, WithinRules, zeros, joinedAnswer, joinOutcome, outcome, figuresOf, figures, WithinBound}
 use Rattle.semantics.proofs.Cases.{cases}
 use Rattle.semantics.proofs.Reading.{value-small}
 use Rattle.semantics.proofs.Totals.{counted-results}
@@ -38,12 +37,6 @@ pub joins-more : (D : Base) (p : Plan) (w : ℕ) (s o : List ℕ) → outputFits
     → joinOutcome D p w s o ≡ record { answer = refusal 11 (held (length (results D p))); scratch = zeros s; output = o }
 unfolding joinOutcome
 joins-more D p w s o h = rw (lt-ltb (outputFits w (length o)) (length (results D p)) h, joinOutcome)
-
--- another number of them than the groups tell: 12
-pub joins-unlike : (D : Base) (p : Plan) (w : ℕ) (s o : List ℕ) → length (results D p) ≤ outputFits w (length o) → (countedTotal D p ≡ length (results D p) → ⊥)
-    → joinOutcome D p w s o ≡ record { answer = refusal 12 0; scratch = zeros s; output = o }
-unfolding joinOutcome
-joins-unlike D p w s o h n = rw (le-ltb (outputFits w (length o)) (length (results D p)) h, ne-eqb (countedTotal D p) (length (results D p)) n, joinOutcome)
 
 -- else they are joined
 pub joins-all : (D : Base) (p : Plan) (w : ℕ) (s o : List ℕ) → WellBehaved (D .shape) p → length (results D p) ≤ outputFits w (length o)
