@@ -36,8 +36,9 @@ table-of : (s : List ℕ) (at : ℕ) → (getD s at 0 ≡ 255 → ⊥) → (p : 
 table-of s at n (scan t) e h = rw (h .1) (h .2)
 table-of s at n (join l r) e h = absurd (n (h .1))
 
-pub table : (s : List ℕ) (at : ℕ) → (getD s at 0 ≡ 255 → ⊥) → Planned s at → getD s at 0 < 16
-table s at n q = table-of s at n (q .plan) (q .end) (q .stands)
+-- so no other byte stands where a plan begins
+pub no-other : (s : List ℕ) (at : ℕ) → (getD s at 0 ≡ 255 → ⊥) → 16 ≤ getD s at 0 → Planned s at → ⊥
+no-other s at n h q = omega (arith, table-of s at n (q .plan) (q .end) (q .stands))
 
 -- the left plan of a join
 left-of : (s : List ℕ) (at : ℕ) → getD s at 0 ≡ 255 → (p : Plan) (e : ℕ) → PlanAt s at p e → Planned s (at + 1)

@@ -43,13 +43,22 @@ fn broken_at(at: usize, left: Subplan, right: Subplan, left_mask: u32, right_mas
     }
 }
 
-// The plan that begins at an index, for tables with these masks.
+// The plan that begins at an index, for tables with these masks. The bytes spell a plan: only a table number or an FF stands there.
 fn judge(code: &[u8], masks: &[u32; 16], at: usize) -> Subplan
     requires { ⌜ Planned (now code) at ⌝ }
     ensures { λ r. ⌜ ((p : Plan) (e : ℕ) → PlanAt (now (code .entry)) at p e → Judged (now (masks .entry)) p at e r) ⌝ }
 {
     let b = code[at];
     match b {
+        0..=15 => {
+            let t = words::index(b);
+            Subplan {
+                attributes: masks[t],
+                leftmost: t,
+                next: at + 1,
+                broken: Found::Nothing,
+            }
+        }
         255 => {
             let left = judge(code, masks, at + 1);
             let middle = left.next;
@@ -64,15 +73,12 @@ fn judge(code: &[u8], masks: &[u32; 16], at: usize) -> Subplan
                 broken,
             }
         }
-        _ => {
-            let t = words::index(b);
-            Subplan {
-                attributes: masks[t],
-                leftmost: t,
-                next: at + 1,
-                broken: Found::Nothing,
-            }
-        }
+        _ => Subplan {
+            attributes: 0,
+            leftmost: 0,
+            next: at,
+            broken: Found::Nothing,
+        },
     }
 }
 

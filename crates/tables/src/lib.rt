@@ -28,7 +28,7 @@ pub struct Contents {
 }
 
 // One record: the reading ends there, or it is a table, with the bytes of its record.
-pub enum Record {
+enum Record {
     Last(End),
     Table { mask: u32, rows: usize, size: usize },
 }
@@ -86,7 +86,7 @@ fn table_record(file: &[u8], at: usize) -> Record
 }
 
 // The record at an offset, after that many tables: two bytes left (1), mark (2), 17th (5), then the record's own rules.
-pub fn next_record(file: &[u8], at: usize, count: usize) -> Record
+fn next_record(file: &[u8], at: usize, count: usize) -> Record
     requires { ⌜ at ≤ length (now file) ⌝ }
     ensures { λ r. ⌜ r ≡ recordOf count (length (now (file .entry))) at (drop at (now (file .entry))) ⌝ }
 {

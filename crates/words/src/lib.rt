@@ -2,7 +2,7 @@
 ghost use mathlib.Core.Path.{_≡_};
 ghost use Prim.Native.Nat.{_+_, _*_, _<_, _≤_};
 ghost use lib.ListN.{length};
-ghost use Rattle.semantics.specs.Files.{wordAt, hasBit, onesBelow, arity};
+ghost use Rattle.semantics.specs.Files.{wordAt, onesBelow, arity};
 ghost use Rattle.semantics.specs.Totals.{held};
 ghost use Rattle.semantics.specs.Outcome.{zeros};
 
@@ -47,14 +47,6 @@ pub fn ones(mask: u32) -> u32
     ensures { λ r. ⌜ r ≡ arity mask ⌝ }
 {
     u32::count_ones(mask)
-}
-
-// Whether the table with this mask has the attribute.
-pub fn has_bit(mask: u32, bit: u32) -> bool
-    requires { ⌜ bit < 32 ⌝ }
-    ensures { λ r. ⌜ r ≡ hasBit mask bit ⌝ }
-{
-    (mask >> bit) % 2 == 1
 }
 
 // A sum that stays at the holding limit.

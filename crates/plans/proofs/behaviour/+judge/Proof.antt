@@ -2,7 +2,7 @@ use Prim.Native.Nat.{_-_}
 use lib.ListN.{length}
 use borrow.Author.Needs.{needs}
 use native.Mathlib.Omega.{arith}
-use Rattle.plans.proofs.Places.{starts, table, left, right, left-ends}
+use Rattle.plans.proofs.Places.{starts, no-other, left, right, left-ends}
 use Rattle.plans.proofs.Judging.{one-table, two-plans, left-index, right-index}
 use Prim.Native.Nat.{ℕ, _<_}
 use borrow.Fn.Kinds.{In}
@@ -128,7 +128,7 @@ judge-index-requires : (t : ℕ) → judge-lts.Need-index-requires (
 ) (judge-at t) judge.Post
 judge-index-requires t c κs = search needs
 
-judge-mul-t23 : (t : ℕ) → judge-lts.Need-mul-t23 (
+judge-mul-t24 : (t : ℕ) → judge-lts.Need-mul-t24 (
   judge-below t,
   judge.Post,
   broken-at-reads.Asked,
@@ -136,9 +136,9 @@ judge-mul-t23 : (t : ℕ) → judge-lts.Need-mul-t23 (
   index-reads.Asked,
   index-reads.Learnt,
 ) (judge-at t) judge.Post
-judge-mul-t23 t c = omega (arith, c .index .ensures .0, table _ _ (c .before .match .rest .1) (c .before .before .before .before .pre .1))
+judge-mul-t24 t c = omega (arith, c .index .ensures .0, c .before .if1 .taken)
 
-judge-element-copy-out-t26 : (t : ℕ) → judge-lts.Need-element-copy-out-t26 (
+judge-element-copy-out-t27 : (t : ℕ) → judge-lts.Need-element-copy-out-t27 (
   judge-below t,
   judge.Post,
   broken-at-reads.Asked,
@@ -146,9 +146,9 @@ judge-element-copy-out-t26 : (t : ℕ) → judge-lts.Need-element-copy-out-t26 (
   index-reads.Asked,
   index-reads.Learnt,
 ) (judge-at t) judge.Post
-judge-element-copy-out-t26 t c = omega (arith, c .index .ensures .0, table _ _ (c .before .match .rest .1) (c .before .before .before .before .pre .1))
+judge-element-copy-out-t27 t c = omega (arith, c .index .ensures .0, c .before .if1 .taken)
 
-judge-add-t27 : (t : ℕ) → judge-lts.Need-add-t27 (
+judge-add-t28 : (t : ℕ) → judge-lts.Need-add-t28 (
   judge-below t,
   judge.Post,
   broken-at-reads.Asked,
@@ -156,7 +156,7 @@ judge-add-t27 : (t : ℕ) → judge-lts.Need-add-t27 (
   index-reads.Asked,
   index-reads.Learnt,
 ) (judge-at t) judge.Post
-judge-add-t27 t c = omega (arith, starts _ _ (c .before .before .before .before .before .pre .1))
+judge-add-t28 t c = omega (arith, starts _ _ (c .before .before .before .before .before .before .pre .1))
 
 judge-returns : (t : ℕ) → judge-lts.Need-returns (
   judge-below t,
@@ -178,7 +178,17 @@ judge-returns-2 : (t : ℕ) → judge-lts.Need-returns-2 (
   index-reads.Asked,
   index-reads.Learnt,
 ) (judge-at t) judge.Post
-judge-returns-2 t c = λ p e h. one-table _ _ _ (c .before .before .match .rest .1) _ (c .before .index .ensures .0) p e h
+judge-returns-2 t c = λ p e h. one-table _ _ _ (c .before .before .before .match .rest .1) _ (c .before .index .ensures .0) p e h
+
+judge-returns-3 : (t : ℕ) → judge-lts.Need-returns-3 (
+  judge-below t,
+  judge.Post,
+  broken-at-reads.Asked,
+  broken-at-reads.Learnt,
+  index-reads.Asked,
+  index-reads.Learnt,
+) (judge-at t) judge.Post
+judge-returns-3 t c = absurd (no-other _ _ (c .before .match .rest .1) (c .if1 .left) (c .before .before .before .before .pre .1))
 
 pub +judge-spec : {M : Type 1} → statement M
 +judge-spec = close μ-judge λ t. judge-lts.spec (
@@ -201,8 +211,9 @@ pub +judge-spec : {M : Type 1} → statement M
     (judge-element-copy-out-broken-at-2 t)
     (judge-broken-at-requires t)
     (judge-index-requires t)
-    (judge-mul-t23 t)
-    (judge-element-copy-out-t26 t)
-    (judge-add-t27 t)
+    (judge-mul-t24 t)
+    (judge-element-copy-out-t27 t)
+    (judge-add-t28 t)
     (judge-returns t)
     (judge-returns-2 t)
+    (judge-returns-3 t)
