@@ -93,11 +93,13 @@ def cut_samples():
     }
     for place, at in places.items():
         sample("cut_in_" + place, P1[:at])
+    sample("cut_in_row_count_with_no_attributes", record(0, 0)[:9])
     sample("cut_in_row_count_with_nine_attributes", record(511, 0)[:9])
     sample("cut_in_row_count_of_4097", record(1, 4097)[:9])
     sample("cut_behind_mark", P1[:2])
     sample("cut_before_columns", P1[:10])
     sample("cut_between_tables", P1[:42])
+    sample("cut_one_byte_short_of_the_third_table", P1[:117])
     sample("cut_before_plan", P1[:118])
     sample("cut_before_plan_length", P1[:120])
     sample("cut_before_plan_bytes", P1[:121])
@@ -150,6 +152,7 @@ def plan_samples():
     sample("plan_names_absent_table_3", file(BENCH, FF, 0, FF, 1, 3))
     sample("plan_names_absent_table_15", file([ONE], 15))
     sample("plan_names_twice_before_absent", file(BENCH, FF, FF, 1, 1, 9))
+    sample("plan_names_a_table_again_late", file([ONE] * 5, FF, 0, FF, 1, FF, 2, FF, 1, 4))
     sample("plan_leaves_a_table_out", file(BENCH, FF, 0, 1))
     sample("plan_misnamed_and_ill_behaved", file(BENCH, FF, FF, 0, 2, 2))
     pieces = [table((0,), (5,)), table((1,), (6,)), table((1, 2), (6, 7)), table((2,), (7,))]
@@ -159,6 +162,11 @@ def plan_samples():
     twice = BENCH + tuple(table((a, a + 1), (1, 2)) for a in (10, 11, 12))
     sample("ill_behaved_in_both_plans", file(twice, FF, FF, 0, FF, 2, 1, FF, 3, FF, 5, 4))
     sample("ill_behaved_in_the_right_plan", file(twice, FF, FF, 0, FF, 1, 2, FF, 3, FF, 5, 4))
+    # three chains of three tables; the first tables of the chains share attribute 31, so the joins of chains are well-behaved
+    chains = [table((a, a + 1) + (31,) * (a % 10 == 0), (1, 2) + (3,) * (a % 10 == 0)) for a in (0, 1, 2, 10, 11, 12, 20, 21, 22)]
+    sample("ill_behaved_in_both_plans_below_a_key", file(chains[:6], FF, FF, 0, FF, 2, 1, FF, 3, FF, 5, 4))
+    sample("ill_behaved_twice_further_below", file(chains, FF, FF, 0, FF, 1, 2, FF, FF, 3, FF, 5, 4, FF, 6, FF, 8, 7))
+    sample("ill_behaved_once_further_below", file(chains, FF, FF, 0, FF, 1, 2, FF, FF, 3, FF, 4, 5, FF, 6, FF, 8, 7))
     sample("well_behaved_from_the_middle", file(BENCH, FF, FF, 1, 0, 2))
     sample("well_behaved_backwards", file(BENCH, FF, 2, FF, 1, 0))
     triangle = [table((0, 1), (1, 2)), table((1, 2), (2, 3)), table((0, 2), (1, 3))]
@@ -210,6 +218,10 @@ def key_samples():
     sample("key_shares_first_word", file([table((0, 1), *second[::3]), table((0, 1), *second[::-1])], FF, 0, 1))
     last = [(1, 2, 3, 4, 5, 6, 7, i * i) for i in range(260)]  # the same with seven words
     sample("key_shares_seven_words", file([table(range(8), *last[::100]), table(range(8), *last)], FF, 0, 1), 5000)
+    # a path of 31 nodes; then bits 30 and 31 of the first word decide the way
+    bits = [(1 << d, 0) for d in range(31)] + [(h << 31, x) for h, x in ((1, 9), (0, 5), (1, 4), (0, 6), (0, 3), (0, 2))]
+    sought = [(1 << 31, 9), (0, 5), (1 << 31, 4), (1 << 31, 1), (3 << 30, 1), (0, 1)]
+    sample("key_bits_30_and_31_decide_the_way", file([table((0, 1), *sought), table((0, 1), *bits[::-1])], FF, 0, 1))
     sample("key_words_swapped", file([table((0, 1), (1, 2), (2, 1), (1, 1)), table((0, 1), (2, 1), (2, 2), (1, 2))], FF, 0, 1))
     sample("key_values_0_and_largest", file([table((0,), (0,), (LARGEST,)), table((0,), (LARGEST,), (0,), (LARGEST,))], FF, 0, 1))
     sample("key_that_no_other_table_holds", file([table((0, 1), (1, 1), (2, 2)), table((1, 2), (3, 1), (4, 2))], FF, 0, 1))
