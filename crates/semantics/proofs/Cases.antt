@@ -42,6 +42,10 @@ pub not-false : (b : Bool) → not b ≡ false → b ≡ true
 not-false true e = refl
 not-false false e = cc
 
+pub not-and : (a b : Bool) → (a && not b) ≡ false → (not a || b) ≡ true
+not-and true b e = not-false b e
+not-and false b e = refl
+
 -- a test does not go both ways
 pub true-false : (b : Bool) → b ≡ true → b ≡ false → ⊥
 true-false b p q = let z : _≡_ {A = ℕ} 0 1 = cc in omega (arith, z)

@@ -7,11 +7,11 @@ use Prim.Native.Nat.{ℕ, zero, suc, _+_, _*_, _≤_, _<_, zero-le}
 use native.Mathlib.Omega.{arith}
 use lib.ListN.{length, length-map}
 use lib.Dec.{eqb}
-use Rattle.semantics.specs.Lists.{Each, same, filter, concatMap, from, upTo}
+use Rattle.semantics.specs.Lists.{oneIf, Each, same, filter, concatMap, from, upTo}
 use Rattle.semantics.specs.Plans.{Plan, scan, join, tables}
 use Rattle.semantics.specs.Results.{Base, Pick, Before, InOrder, RowsFor, rowNumbers, choices, agrees, results}
 use Rattle.semantics.proofs.Cases.{cases}
-use Rattle.semantics.proofs.Lists.{each, Each-map, Each-append, Each-filter, Each-of-map, Each-unmap, Each-concatMap, concatMap-map, map-concatMap, filter-map, length-filter-sum, count-pairs, same-append}
+use Rattle.semantics.proofs.Lists.{each, Each-map, Each-append, Each-filter, Each-of-map, Each-unmap, Each-concatMap, concatMap-map, map-concatMap, filter-map, length-filter-sum, count-pairs, same-append, same-true, filter-passes, filter-swap}
 use Rattle.semantics.proofs.Numbers.{from-lt, sum-from-one}
 use Rattle.semantics.proofs.Steps.{rowNumbers-append}
 
@@ -141,3 +141,19 @@ module _ (D : Base) where
       ∙ same-append (s .left) (s .right) (rowNumbers c) (rowNumbers e) (rowsFor-length (tables l) (s .left) (s .lefts) ∙ sym (rowsFor-length (tables l) (rowNumbers c) g))) (choices D r))
       (choices D l) (choices-rows l))
       ∙ ap₂ (λ a b. a * b) (choices-once l (s .left) (s .lefts)) (choices-once r (s .right) (s .rights)))
+
+  -- it stands in the result once if it agrees, and else not at all
+  pub results-once : (p : Plan) (ys : List ℕ) → RowsFor D (tables p) ys
+      → (c : List Pick) × (map (λ x. x .table) c ≡ tables p) × (rowNumbers c ≡ ys) × (length (filter (λ d. same ys (rowNumbers d)) (results D p)) ≡ oneIf (agrees D c))
+  unfolding results
+  results-once p ys h =
+      one (filter has (choices D p)) (choices-once p ys h) (Each-filter (λ c. map (λ x. x .table) c ≡ tables p) has (choices D p) (choices-named p)) (filter-passes has (choices D p)) (filter-swap has (agrees D) (choices D p))
+    where
+      has : List Pick → Bool
+      has d = same ys (rowNumbers d)
+
+      one : (cs : List (List Pick)) → length cs ≡ 1 → Each (λ c. map (λ x. x .table) c ≡ tables p) cs → Each (λ c. same ys (rowNumbers c) ≡ true) cs → filter has (filter (agrees D) (choices D p)) ≡ filter (agrees D) cs
+          → (c : List Pick) × (map (λ x. x .table) c ≡ tables p) × (rowNumbers c ≡ ys) × (length (filter (λ d. same ys (rowNumbers d)) (filter (agrees D) (choices D p))) ≡ oneIf (agrees D c))
+      one [] n t r e = absurd (omega arith)
+      one (c ∷ (d ∷ cs)) n t r e = absurd (omega arith)
+      one (c ∷ []) n t r e = (c, t .0, sym (same-true ys (rowNumbers c) (r .0)), ap length e ∙ cases (agrees D c) (λ g. rw g) (λ g. rw g))

@@ -129,6 +129,10 @@ module _ {A : Type 0} where
   any-append p [] ys = refl
   any-append p (x ∷ xs) ys = cases (p x) (λ h. rw h) (λ h. rw h (any-append p xs ys))
 
+  pub any-middle : (p : A → Bool) (y : A) (xs ys : List A) → (p y || any p (xs ++ ys)) ≡ any p (xs ++ (y ∷ ys))
+  any-middle p y [] ys = refl
+  any-middle p y (x ∷ xs) ys = cases (p x) (λ h. cases (p y) (λ g. rw (h, g)) (λ g. rw (h, g))) (λ h. rw h (any-middle p y xs ys))
+
   pub any-each : (p q : A → Bool) (xs : List A) → Each (λ x. p x ≡ q x) xs → any p xs ≡ any q xs
   any-each p q [] e = refl
   any-each p q (x ∷ xs) e = rw (e .0, any-each p q xs (e .1))
@@ -191,6 +195,17 @@ module _ {A : Type 0} where
   pub length-zero : (xs : List A) → length xs ≡ 0 → xs ≡ []
   length-zero [] e = refl
   length-zero (x ∷ xs) e = absurd (omega arith)
+
+  -- no element passes
+  pub filter-none : (p : A → Bool) (xs : List A) → length (filter p xs) ≡ 0 → any p xs ≡ false
+  filter-none p xs e = sym (nonEmpty-filter p xs) ∙ ap nonEmpty (length-zero (filter p xs) e)
+
+  pub none-filtered : (p : A → Bool) (xs : List A) → any p xs ≡ false → length (filter p xs) ≡ 0
+  none-filtered p xs e = ap length (empty-nil (filter p xs) (nonEmpty-filter p xs ∙ e))
+
+  -- how many pass on both sides of one that passes
+  pub length-filter-middle : (p : A → Bool) (y : A) (xs ys : List A) → p y ≡ true → length (filter p (xs ++ (y ∷ ys))) ≡ length (filter p xs) + suc (length (filter p ys))
+  length-filter-middle p y xs ys h = ap length (filter-append p xs (y ∷ ys)) ∙ rw h (length-append (filter p xs) (y ∷ filter p ys))
 
 module _ {A B : Type 0} where
   pub Each-of-map : (P : B → Type 0) (f : A → B) (xs : List A) → Each (λ x. P (f x)) xs → Each P (map f xs)

@@ -1,9 +1,9 @@
 -- Answer 8: where it is not due the plan names each table of the file exactly once, so what is summed over the plan's tables
 -- is summed over the file's.
-use mathlib.Core.Path.{_≡_, refl, ap, ap₂, _∙_, fun-ext}
+use mathlib.Core.Path.{_≡_, refl, sym, ap, ap₂, _∙_, fun-ext}
 use mathlib.Core.Bool.{Bool, true, false, _&&_, _||_, not}
 use mathlib.Core.List.{List, [], _∷_, _++_}
-use mathlib.Core.Option.{none, some}
+use mathlib.Core.Option.{none}
 use Prim.Native.Nat.{ℕ, zero, suc, _+_, _≤_, _<_, zero-le}
 use native.Mathlib.Omega.{arith}
 use lib.ListN.{length}
@@ -11,13 +11,14 @@ use lib.Dec.{eqb, ltb}
 use borrow.Author.Tests.{eqb-true, eqb-false, ne-eqb, ltb-true}
 use Rattle.semantics.specs.Lists.{oneIf, Each, any, sum, filter, from}
 use Rattle.semantics.specs.Plans.{Plan, scan, join, encode, tables, Small, misplaced, planOf, misnamed}
+use Rattle.semantics.specs.Details.{names, NamedOnce}
 use Rattle.semantics.proofs.Cases.{cases, and-left, and-right, not-or}
 use Rattle.semantics.proofs.Lists.{filter-append, filter-true, length-filter-sum, sum-one, length-zero}
 use Rattle.semantics.proofs.Numbers.{length-from, sum-from-one}
 use Rattle.semantics.proofs.Spelling.{spelled-out}
 
 -- what is not yet named of the numbers from i
-abbrev unnamed : List ℕ → ℕ → Bool
+abbrev pub unnamed : List ℕ → ℕ → Bool
 unnamed named y = not (any (eqb y) named)
 
 -- x is taken out of those that pass
@@ -54,22 +55,29 @@ final-length : (n : ℕ) (named ts : List ℕ) → Naming n named ts → length 
 final-length n named [] m = m
 final-length n named (t ∷ ts) m = final-length n (t ∷ named) ts (m .2)
 
--- named and not named together are all
-final-all : (f : ℕ → ℕ) (n : ℕ) (named ts : List ℕ) → Naming n named ts → sum f named + sum f (filter (unnamed named) (from 0 n)) ≡ sum f (from 0 n)
-    → sum f (final named ts) + sum f (filter (unnamed (final named ts)) (from 0 n)) ≡ sum f (from 0 n)
-final-all f n named [] m e = e
-final-all f n named (t ∷ ts) m e =
-    final-all f n (t ∷ named) ts (m .2)
-    (rw (fun-ext (λ y. not-or (eqb y t) (any (eqb y) named))) (omega (arith, e, take-out f (unnamed named) t 0 n zero-le (omega (arith, m .0)) (m .1))))
+-- named and not named together are all the n tables, each once
+abbrev pub Apart : ℕ → List ℕ → Type 0
+Apart n named = (f : ℕ → ℕ) → sum f named + sum f (filter (unnamed named) (from 0 n)) ≡ sum f (from 0 n)
 
-pub naming-sum : (f : ℕ → ℕ) (n : ℕ) (ts : List ℕ) → Naming n [] ts → sum f ts ≡ sum f (from 0 n)
+pub apart-none : (n : ℕ) → Apart n []
+apart-none n f = rw (filter-true (from 0 n)) (omega arith)
+
+pub apart-more : (n t : ℕ) (named : List ℕ) → t < n → unnamed named t ≡ true → Apart n named → Apart n (t ∷ named)
+apart-more n t named h u a f =
+    rw (fun-ext (λ y. not-or (eqb y t) (any (eqb y) named))) (omega (arith, a f, take-out f (unnamed named) t 0 n zero-le (omega arith) u))
+
+final-apart : (n : ℕ) (named ts : List ℕ) → Naming n named ts → Apart n named → Apart n (final named ts)
+final-apart n named [] m a = a
+final-apart n named (t ∷ ts) m a = final-apart n (t ∷ named) ts (m .2) (apart-more n t named (m .0) (m .1) a)
+
+naming-sum : (f : ℕ → ℕ) (n : ℕ) (ts : List ℕ) → Naming n [] ts → sum f ts ≡ sum f (from 0 n)
 naming-sum f n ts m =
-    let all : (g : ℕ → ℕ) → sum g (final [] ts) + sum g (filter (unnamed (final [] ts)) (from 0 n)) ≡ sum g (from 0 n) = λ g. final-all g n [] ts m (rw (filter-true (from 0 n)) (omega arith)) in
+    let all : Apart n (final [] ts) = final-apart n [] ts m (apart-none n) in
     let rest : length (filter (unnamed (final [] ts)) (from 0 n)) ≡ 0
     = omega (arith, all (λ x. 1), sum-one (final [] ts), sum-one (filter (unnamed (final [] ts)) (from 0 n)), sum-one (from 0 n), length-from 0 n, final-length n [] ts m) in
     omega (arith, final-sum f [] ts, all f, ap (sum f) (length-zero (filter (unnamed (final [] ts)) (from 0 n)) rest))
 
-misnamed-naming : (n : ℕ) (named : List ℕ) (i : ℕ) (bs : List ℕ) → misnamed n named i bs ≡ none → Naming n named (filter (λ b. not (eqb b 255)) bs)
+misnamed-naming : (n : ℕ) (named : List ℕ) (i : ℕ) (bs : List ℕ) → misnamed n named i bs ≡ none → Naming n named (names bs)
 misnamed-naming n named i [] e = cases (eqb (length named) n) (λ h. eqb-true (length named) n h) (λ h. let z : _≡_ {A = ℕ} 0 1 = cc (rw (h, misnamed) at e) in omega arith)
 misnamed-naming n named i (b ∷ bs) e =
     cases (eqb b 255) (λ h. rw h (misnamed-naming n named (suc i) bs (rw (h, misnamed) at e)))
@@ -77,24 +85,27 @@ misnamed-naming n named i (b ∷ bs) e =
     (λ g. rw h (ltb-true b n (and-left (ltb b n) (unnamed named b) g), and-right (ltb b n) (unnamed named b) g, misnamed-naming n (b ∷ named) (suc i) bs (rw (h, g, misnamed) at e)))
     (λ g. let z : _≡_ {A = ℕ} 0 1 = cc (rw (h, g, misnamed) at e) in absurd (omega arith)))
 
-names-encode : (p : Plan) → Small p → filter (λ b. not (eqb b 255)) (encode p) ≡ tables p
+-- the bytes of a plan name its tables
+pub names-encode : (p : Plan) → Small p → names (encode p) ≡ tables p
 names-encode (scan t) h = rw (ne-eqb t 255 (λ e. omega arith))
 names-encode (join l r) h = filter-append (λ b. not (eqb b 255)) (encode l) (encode r) ∙ ap₂ (λ a b. a ++ b) (names-encode l (h .0)) (names-encode r (h .1))
 
-plan-naming : (n : ℕ) (bs : List ℕ) → misplaced 1 0 bs ≡ none → misnamed n [] 0 bs ≡ none → Naming n [] (tables (planOf bs))
-plan-naming n bs a b = let (s, e) = spelled-out bs a in rw (← names-encode (planOf bs) s, e) (misnamed-naming n [] 0 bs b)
+pub plan-names : (bs : List ℕ) → misplaced 1 0 bs ≡ none → names bs ≡ tables (planOf bs)
+plan-names bs a = let (s, e) = spelled-out bs a in ap names (sym e) ∙ names-encode (planOf bs) s
 
 -- where answers 7 and 8 are not due, what is summed over the plan's tables is summed over the file's
 pub plan-sum : (f : ℕ → ℕ) (n : ℕ) (bs : List ℕ) → misplaced 1 0 bs ≡ none → misnamed n [] 0 bs ≡ none → sum f (tables (planOf bs)) ≡ sum f (from 0 n)
-plan-sum f n bs a b = naming-sum f n (tables (planOf bs)) (plan-naming n bs a b)
+plan-sum f n bs a b = ap (sum f) (sym (plan-names bs a)) ∙ naming-sum f n (names bs) (misnamed-naming n [] 0 bs b)
 
 naming-below : (n : ℕ) (named ts : List ℕ) → Naming n named ts → Each (λ t. t < n) ts
 naming-below n named [] m = tt
 naming-below n named (t ∷ ts) m = (m .0, naming-below n (t ∷ named) ts (m .2))
 
--- "each table of the file is named exactly once", and no other is
-pub named-below : (n : ℕ) (bs : List ℕ) → misplaced 1 0 bs ≡ none → misnamed n [] 0 bs ≡ none → Each (λ t. t < n) (tables (planOf bs))
-named-below n bs a b = naming-below n [] (tables (planOf bs)) (plan-naming n bs a b)
-
-pub named-once : (n t : ℕ) (bs : List ℕ) → misplaced 1 0 bs ≡ none → misnamed n [] 0 bs ≡ none → t < n → length (filter (eqb t) (tables (planOf bs))) ≡ 1
-named-once n t bs a b h = length-filter-sum (eqb t) (tables (planOf bs)) ∙ plan-sum (λ x. oneIf (eqb t x)) n bs a b ∙ sum-from-one t 0 n zero-le (omega arith)
+-- where answer 8 is not due, the bytes name each table of the file exactly once, and no other
+pub not-misnamed : (n : ℕ) (bs : List ℕ) → misnamed n [] 0 bs ≡ none → NamedOnce n (names bs)
+not-misnamed n bs e =
+    let m = misnamed-naming n [] 0 bs e in
+    record {
+      present = naming-below n [] (names bs) m;
+      once = λ t h. length-filter-sum (eqb t) (names bs) ∙ naming-sum (λ x. oneIf (eqb t x)) n (names bs) m ∙ sum-from-one t 0 n zero-le (omega arith);
+    }

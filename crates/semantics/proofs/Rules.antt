@@ -1,24 +1,24 @@
 -- What the answers up to 10 leave: a file within the rules has its tables and its plan, and a refusal has its number.
 use mathlib.Core.Path.{_≡_, refl, sym, ap, _∙_}
-use mathlib.Core.Bool.{true, false}
+use mathlib.Core.Bool.{true, false, not}
 use mathlib.Core.List.{List, [], _∷_}
 use mathlib.Core.Option.{none, some}
 use Prim.Native.Nat.{ℕ, _+_, _≤_, _<_}
 use native.Mathlib.Omega.{arith}
 use lib.ListN.{length, getD}
-use lib.Dec.{ltb}
+use lib.Dec.{eqb, ltb}
 use borrow.Author.Tests.{ltb-true, ltb-false, lt-ltb, le-ltb}
-use Rattle.semantics.specs.Lists.{sum, from}
-use Rattle.semantics.specs.Files.{Table, Reading, fault, planBytes, read}
+use Rattle.semantics.specs.Lists.{oneIf, any, sum, from}
+use Rattle.semantics.specs.Files.{Table, hasBit, Reading, fault, planBytes, read}
 use Rattle.semantics.specs.Plans.{Plan, tables, misplaced, planOf, misnamed}
-use Rattle.semantics.specs.Shapes.{noTable, shapeOf, illBehaved, rowsIn, scratchNeed}
+use Rattle.semantics.specs.Shapes.{noTable, shapeOf, holds, illBehaved, rowsIn, scratchNeed}
 use Rattle.semantics.specs.Outcome.{Verdict, refused, admitted, planVerdict, readVerdict, rulesVerdict, scratchVerdict, verdict, WithinRules}
 use Rattle.semantics.proofs.Cases.{cases, option-cases}
-use Rattle.semantics.proofs.Lists.{sum-one}
+use Rattle.semantics.proofs.Lists.{sum-one, any-sum}
 use Rattle.semantics.proofs.Numbers.{length-from, sum-shift}
 use Rattle.semantics.proofs.Reading.{ending-cases, fault-number}
 use Rattle.semantics.proofs.Spelling.{spelled-out}
-use Rattle.semantics.proofs.Naming.{plan-sum, named-below}
+use Rattle.semantics.proofs.Naming.{plan-names, plan-sum, not-misnamed}
 use Rattle.semantics.proofs.WellBehaved.{illBehaved-wellBehaved}
 
 pub verdict-cases : {P : Type 0} (v : Verdict) → ((n d : ℕ) → v ≡ refused n d → P) → ((ts : List Table) (p : Plan) → v ≡ admitted ts p → P) → P
@@ -40,7 +40,7 @@ plan-judged ts code =
       refl,
       record {
         small = (spelled-out code h) .0;
-        named = named-below (length ts) code h g;
+        named = rw (plan-names code h) at ((not-misnamed (length ts) code g) .present);
         sums = λ k. plan-sum k (length ts) code h g;
         behaved = illBehaved-wellBehaved (shapeOf ts) (planOf code) 0 f;
       },
@@ -127,3 +127,11 @@ tables-count ts p w = sym (sum-one (tables p)) ∙ w .sums (λ x. 1) ∙ sum-one
 pub rows-count : (ts : List Table) (p : Plan) → WithinRules ts p → sum ((shapeOf ts) .rows) (tables p) ≡ rowsIn ts
 unfolding shapeOf rowsIn
 rows-count ts p w = w .sums (λ i. (getD ts i noTable) .rows) ∙ sum-tables (λ t. t .rows) ts
+
+-- the plan's tables have the attributes of the file's
+pub holds-file : (ts : List Table) (p : Plan) → WithinRules ts p → (a : ℕ) → holds (shapeOf ts) p a ≡ any (λ t. hasBit (t .mask) a) ts
+unfolding shapeOf holds
+holds-file ts p w a =
+    any-sum (λ i. hasBit ((getD ts i noTable) .mask) a) (tables p)
+    ∙ ap (λ n. not (eqb n 0)) (w .sums (λ i. oneIf (hasBit ((getD ts i noTable) .mask) a)) ∙ sum-tables (λ t. oneIf (hasBit (t .mask) a)) ts)
+    ∙ sym (any-sum (λ t. hasBit (t .mask) a) ts)

@@ -9,5 +9,6 @@ pub mod Counts
 pub mod Bags
 pub mod Rows
 pub mod Enumeration
+pub mod Details
 pub mod Outcome
 pub mod Samples
