@@ -1,44 +1,64 @@
 # make run joins the sample file, or another one: make run FILE=path. Its last lines are the result.
 # make test is the gate. Both need the Rattle kit on the path, and run programs for x86-64 Linux.
+# make help names every target, with how long it takes.
 FILE = crates/pigrozd/stdin
 
-run:
+run: say-first
 	rt check pigrozd
 	target/bin/pigrozd < $(FILE)
 
 test:
 	rt ci
 
-.PHONY: run test
+# What takes minutes says so before it begins.
+say-first:
+	@test -e target/stamp/join || echo 'make: all crates below are proved first; about 3 minutes on 2 cores, once' >&2
+
+.PHONY: run test say-first
 
 # make lib builds the library for C and what calls C: target/lib/libpigrozd.a and libpigrozd.so; include/pigrozd.h declares it.
 # make check-users tests what users call: a part of it for each kind of user.
 LIB = target/lib
 EXAMPLES = target/examples
 SOURCES = $(shell find crates -name '*.rt' -o -name '*.antt')
-STRICT = -std=c99 -pedantic -Wall -Wextra -Werror
+WARNINGS = -pedantic -Wall -Wextra -Werror
+STRICT = -std=c99 $(WARNINGS)
 
-lib: $(LIB)/libpigrozd.a $(LIB)/libpigrozd.so
+# The version is said once, in the header. The shared library's soname has its first number.
+VERSION := $(shell sed -n 's/^.define PIGROZD_VERSION "\(.*\)"$$/\1/p' include/pigrozd.h)
+SONAME := libpigrozd.so.$(firstword $(subst ., ,$(VERSION)))
+
+lib: say-first $(LIB)/libpigrozd.a $(LIB)/libpigrozd.so $(LIB)/$(SONAME)
 
 $(LIB)/libpigrozd.a: crates.txt $(SOURCES)
 	rt staticlib capi
 	mkdir -p $(LIB)
 	cp target/staticlib/libcapi.a $@
 
-$(LIB)/libpigrozd.so: $(LIB)/libpigrozd.a
-	$(CC) -shared -Wl,-soname,libpigrozd.so -Wl,-z,defs -o $@ -Wl,--whole-archive $< -Wl,--no-whole-archive
+$(LIB)/libpigrozd.so: $(LIB)/libpigrozd.a include/pigrozd.h
+	$(CC) -shared -Wl,-soname,$(SONAME) -Wl,-z,defs -o $@ -Wl,--whole-archive $< -Wl,--no-whole-archive
+
+$(LIB)/$(SONAME): $(LIB)/libpigrozd.so
+	ln -sf libpigrozd.so $@
 
 check-users: check-c check-python check-tools
 
-# The example with either library, against its expected output.
-check-c: lib
+# The header as C and as C++, the examples with either library against their expected output, and an installation.
+check-c: lib target/bin/pigrozd
 	mkdir -p $(EXAMPLES)
+	$(CC) $(STRICT) -Iinclude -o $(EXAMPLES)/test_header tests/test_header.c $(LIB)/libpigrozd.a
+	$(EXAMPLES)/test_header
+	$(CXX) -std=c++98 $(WARNINGS) -Iinclude -o $(EXAMPLES)/test_header -x c++ tests/test_header.c -x none $(LIB)/libpigrozd.a
+	$(EXAMPLES)/test_header
 	$(CC) $(STRICT) -Iinclude -o $(EXAMPLES)/join_sample examples/c/join_sample.c $(LIB)/libpigrozd.a
 	$(EXAMPLES)/join_sample > $(EXAMPLES)/printed
 	diff examples/c/expected $(EXAMPLES)/printed
 	$(CC) $(STRICT) -Iinclude -o $(EXAMPLES)/join_sample_shared examples/c/join_sample.c -L$(LIB) -lpigrozd
 	LD_LIBRARY_PATH=$(LIB) $(EXAMPLES)/join_sample_shared > $(EXAMPLES)/printed
 	diff examples/c/expected $(EXAMPLES)/printed
+	$(CC) $(STRICT) -Iinclude -o $(EXAMPLES)/join_file examples/c/join_file.c $(LIB)/libpigrozd.a
+	sh tests/test_join_file.sh $(EXAMPLES)/join_file
+	MAKE='$(MAKE)' CC='$(CC)' sh tests/test_install.sh
 
 check-python: lib
 	python3 -m unittest tests/test_pigrozd.py
@@ -64,3 +84,65 @@ check-bench: $(BENCH)
 	$(BENCH) --check
 
 .PHONY: bench check-bench
+
+# make install puts the header, both libraries, the pkg-config file, the proved program and the manual pages below PREFIX. The
+# program is installed as pigrozd-file, since pigrozd is the command of the Python package. DESTDIR goes before every path.
+PREFIX = /usr/local
+BINDIR = $(PREFIX)/bin
+INCLUDEDIR = $(PREFIX)/include
+LIBDIR = $(PREFIX)/lib
+PKGCONFIGDIR = $(LIBDIR)/pkgconfig
+MANDIR = $(PREFIX)/share/man
+INSTALL = install
+SHARED = libpigrozd.so.$(VERSION)
+INSTALLED = $(INCLUDEDIR)/pigrozd.h $(LIBDIR)/libpigrozd.a $(LIBDIR)/$(SHARED) $(LIBDIR)/$(SONAME) $(LIBDIR)/libpigrozd.so \
+    $(PKGCONFIGDIR)/pigrozd.pc $(BINDIR)/pigrozd-file $(MANDIR)/man1/pigrozd-file.1 $(MANDIR)/man3/pigrozd_join.3
+
+# a path of pkg-config's file, as one below ${prefix} where it is
+below = $(patsubst $(PREFIX)/%,$${prefix}/%,$(1))
+
+target/bin/pigrozd: crates.txt $(SOURCES)
+	rt check pigrozd
+	touch $@
+
+install: lib target/bin/pigrozd
+	$(INSTALL) -d $(sort $(addprefix $(DESTDIR),$(dir $(INSTALLED))))
+	$(INSTALL) -m 644 include/pigrozd.h $(DESTDIR)$(INCLUDEDIR)/pigrozd.h
+	$(INSTALL) -m 644 $(LIB)/libpigrozd.a $(DESTDIR)$(LIBDIR)/libpigrozd.a
+	$(INSTALL) -m 755 $(LIB)/libpigrozd.so $(DESTDIR)$(LIBDIR)/$(SHARED)
+	ln -sf $(SHARED) $(DESTDIR)$(LIBDIR)/$(SONAME)
+	ln -sf $(SONAME) $(DESTDIR)$(LIBDIR)/libpigrozd.so
+	printf '%s\n' 'prefix=$(PREFIX)' 'includedir=$(call below,$(INCLUDEDIR))' 'libdir=$(call below,$(LIBDIR))' '' 'Name: pigrozd' \
+	    'Description: Joins small tables by a plan; proved' 'Version: $(VERSION)' \
+	    'Cflags: -I$${includedir}' 'Libs: -L$${libdir} -lpigrozd' > $(DESTDIR)$(PKGCONFIGDIR)/pigrozd.pc
+	$(INSTALL) -m 755 target/bin/pigrozd $(DESTDIR)$(BINDIR)/pigrozd-file
+	$(INSTALL) -m 644 man/pigrozd-file.1 $(DESTDIR)$(MANDIR)/man1/pigrozd-file.1
+	$(INSTALL) -m 644 man/pigrozd_join.3 $(DESTDIR)$(MANDIR)/man3/pigrozd_join.3
+
+uninstall:
+	rm -f $(addprefix $(DESTDIR),$(INSTALLED))
+
+clean:
+	rm -rf target
+
+.PHONY: install uninstall clean
+
+# Times are of 2 cores.
+help:
+	@printf '%s\n' \
+	    'make run [FILE=path]   joins a file, or the sample; 3 minutes the first time, since all is proved first, then a second' \
+	    'make test              rt ci: proves everything from nothing and tries the must-fail edits; 14 minutes' \
+	    'make lib               target/lib/libpigrozd.a and libpigrozd.so; 3 minutes the first time, then nothing' \
+	    'make install [PREFIX=/usr/local] [DESTDIR=]' \
+	    '                       header, libraries, pkg-config file, program and manual pages; a second after make lib and make run' \
+	    'make uninstall         removes what make install put there; the same PREFIX and DESTDIR' \
+	    'make check-users       check-c, check-python and check-tools' \
+	    'make check-c           the header, the C examples and an installation; seconds after make lib and make run' \
+	    'make check-python      the Python package over the shared library; seconds after make lib' \
+	    'make check-tools       the tools for tables and plans; seconds' \
+	    'make bench             measures the join beside other joins; minutes' \
+	    'make check-bench       only whether these joins agree; a minute' \
+	    'make clean             removes target/, with all that is proved and built' \
+	    'make help              this list'
+
+.PHONY: help

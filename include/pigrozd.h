@@ -4,12 +4,15 @@
  * - No pointer is NULL, also where the length beside it is 0.
  * - file has file_bytes readable bytes; scratch and output have scratch_words and output_words writable words of 32 bits,
  *   aligned to 4 bytes.
+ * - file_bytes is at most PIGROZD_MOST_BYTES, scratch_words and output_words are at most PIGROZD_MOST_WORDS: no buffer has
+ *   2^63 bytes or more. (No memory of such a size can be had on x86-64; a length that was worked out wrong can be one.)
  * - The three do not overlap, and nothing else writes to them during the call.
  * - 64 KB of stack are free (measured: 31 KB at most, for a plan of 255 bytes FF; 15 KB for 16 tables).
  * Nothing is asked of what they hold. The function calls nothing but memcpy and memset and keeps nothing, so that calls with
  * buffers of their own may run side by side.
  *
- * What it does is proved (crates/capi/specs/Calls.antt). docs/answers/README.md says what each number means.
+ * What it does is proved (crates/capi/specs/Calls.antt). docs/SPECIFICATION.md says it in words, docs/answers/README.md says
+ * what each answer means and what to look at, docs/TRUST.md what is assumed.
  */
 #ifndef PIGROZD_H
 #define PIGROZD_H
@@ -17,12 +20,56 @@
 #include <stddef.h>
 #include <stdint.h>
 
+/* The version of this header. The library has no function that tells its own; the name that a program loads it by has the
+ * major number: libpigrozd.so.0. */
+#define PIGROZD_VERSION_MAJOR 0
+#define PIGROZD_VERSION_MINOR 1
+#define PIGROZD_VERSION_PATCH 0
+#define PIGROZD_VERSION "0.1.0"
+
+/* Limits of a file. What passes one is refused. */
+#define PIGROZD_MOST_TABLES 16
+#define PIGROZD_MOST_ROWS 4096           /* of one table */
+#define PIGROZD_MOST_TABLE_ATTRIBUTES 8  /* of one table; it has at least 1 */
+#define PIGROZD_MOST_ATTRIBUTES 32       /* of all tables together, and the values of a row of the result; numbered from 0 */
+#define PIGROZD_MOST_PLAN_BYTES 255      /* that the plan's record can hold; a plan of 16 tables has 31 */
+
+/* The most words of scratch that any file needs: 8 for each of 16 * 4,096 rows, and 4,096 for each of 15 joins. */
+#define PIGROZD_MOST_SCRATCH_WORDS 585728
+
+/* The most words of output that are used. A longer output is taken, and its rest is left as it was. */
+#define PIGROZD_MOST_OUTPUT_WORDS 1048576
+
+/* As the detail of PIGROZD_OUTPUT_SHORT: so many results or more. */
+#define PIGROZD_HOLD_LIMIT 4294967295u
+
+/* The largest lengths that a caller may give: bytes of file; words of scratch, and of output. */
+#define PIGROZD_MOST_BYTES 9223372036854775807u
+#define PIGROZD_MOST_WORDS 2305843009213693951u
+
 #ifdef __cplusplus
 extern "C" {
 #endif
 
-/* number 0: joined, and rows and the four counts follow. Any other number: refused; detail says where or how much, and the
- * rest is 0. */
+/* The answers, by number. 13 is no answer of the library: the program gives it where its standard input is too long. */
+enum pigrozd_number {
+    PIGROZD_JOINED = 0,
+    PIGROZD_CUT_OFF = 1,           /* the file is cut off; detail: offset of the record that is cut */
+    PIGROZD_NO_RECORD = 2,         /* no record begins here; detail: offset */
+    PIGROZD_ATTRIBUTE_COUNT = 3,   /* a table with no attribute, or with more than 8; detail: offset of its record */
+    PIGROZD_TOO_MANY_ROWS = 4,     /* a table with more than 4,096 rows; detail: offset of its record */
+    PIGROZD_TOO_MANY_TABLES = 5,   /* a 17th table; detail: offset of its record */
+    PIGROZD_BEHIND_PLAN = 6,       /* something stands behind the plan; detail: offset of the first byte too many */
+    PIGROZD_NOT_A_PLAN = 7,        /* the plan's bytes are not a plan; detail: index in the plan */
+    PIGROZD_NOT_NAMED_ONCE = 8,    /* the plan does not name each table once; detail: index in the plan */
+    PIGROZD_NOT_WELL_BEHAVED = 9,  /* the plan is not well-behaved; detail: index of an FF in the plan */
+    PIGROZD_SCRATCH_SHORT = 10,    /* the scratch is too short; detail: words needed */
+    PIGROZD_OUTPUT_SHORT = 11,     /* more results than the output fits; detail: number of results, or PIGROZD_HOLD_LIMIT */
+    PIGROZD_COUNTS_DIFFER = 12     /* two counts of the results differ; never given, which is proved; detail: 0 */
+};
+
+/* number: one of the above. After PIGROZD_JOINED detail is 0, and rows and the four counts follow. Any other number is a
+ * refusal: detail says where or how much, and the rest is 0. */
 typedef struct pigrozd_answer {
     uint64_t number;
     uint64_t detail;
@@ -33,12 +80,13 @@ typedef struct pigrozd_answer {
     uint64_t visits;
 } pigrozd_answer;
 
-/* After number 0 output begins with the rows: each has one word for every attribute that some table has, attributes rising.
- * The words behind them, and after any other number all of output, are as they were.
+/* After PIGROZD_JOINED output begins with the rows: each has one word for every attribute that some table has, attributes
+ * rising. The words behind them, and after any other number all of output, are as they were.
  *
- * Too little scratch is number 10, with the words needed as detail. Too short an output is number 11, with the number of
- * rows as detail (4294967295: that many or more); of a longer output than 1,048,576 words the rest is not used. After 0 and
- * 11 scratch is all zero, after 1 to 10 it is as it was. */
+ * Too little scratch is PIGROZD_SCRATCH_SHORT: lend as many words as detail says and call again. Too short an output is
+ * PIGROZD_OUTPUT_SHORT: detail times the values of a row are the words to lend. Where these are more than
+ * PIGROZD_MOST_OUTPUT_WORDS, no output is long enough. After PIGROZD_JOINED and PIGROZD_OUTPUT_SHORT all of scratch is zero;
+ * after 1 to 10 it is as it was. What scratch and output hold before the call changes no answer. */
 pigrozd_answer pigrozd_join(const uint8_t *file, size_t file_bytes,
                             uint32_t *scratch, size_t scratch_words,
                             uint32_t *output, size_t output_words);

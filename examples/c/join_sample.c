@@ -1,6 +1,8 @@
-/* Joins the sample of document 01, made here from columns, and prints what the program pigrozd prints of it.
+/* Joins the sample of docs/SPECIFICATION.md, made here from columns, and prints what the proved program prints of it.
  *
  *     cc -Iinclude -o join_sample examples/c/join_sample.c target/lib/libpigrozd.a
+ *
+ * Once the library is installed: cc -o join_sample join_sample.c $(pkg-config --cflags --libs pigrozd)
  */
 #include <inttypes.h>
 #include <stdio.h>
@@ -70,7 +72,7 @@ int main(void)
 
     /* Asked without scratch, the join says how much it needs. */
     answer = pigrozd_join(file, length, scratch, 0, output, 64);
-    if (answer.number == 10) {
+    if (answer.number == PIGROZD_SCRATCH_SHORT) {
         size_t words = answer.detail;
         scratch = malloc(4 * words);
         if (scratch == NULL)
@@ -79,7 +81,7 @@ int main(void)
         free(scratch);
     }
 
-    if (answer.number != 0) {
+    if (answer.number != PIGROZD_JOINED) {
         printf("refused %" PRIu64 " %" PRIu64 "\n", answer.number, answer.detail);
         return 1;
     }

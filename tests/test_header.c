@@ -1,0 +1,239 @@
+/* Tests include/pigrozd.h as C99 and as C++ against the library: that each name of an answer is the number that is given under
+ * its condition, that the limits are those at which answers change, and that the version is said alike everywhere.
+ * make check-c runs it. It prints nothing and ends with 0, or prints each test that failed and ends with 1. */
+#include "pigrozd.h"
+
+#include <stdio.h>
+#include <string.h>
+
+static int failures;
+
+static void expect_at(int line, const char *what, uint64_t got, uint64_t wanted)
+{
+    if (got != wanted) {
+        printf("line %d: %s is %lu and not %lu\n", line, what, (unsigned long)got, (unsigned long)wanted);
+        failures++;
+    }
+}
+
+#define EXPECT(got, wanted) expect_at(__LINE__, #got, (uint64_t)(got), (uint64_t)(wanted))
+
+/* ---- a file */
+static uint8_t file[4 * 1024 * 1024];
+static size_t length;
+
+static void put_byte(unsigned byte)
+{
+    file[length++] = (uint8_t)byte;
+}
+
+static void put_word(uint32_t word)
+{
+    int i;
+    for (i = 0; i < 4; i++)
+        put_byte((word >> (8 * i)) & 255);
+}
+
+static void put_table(uint32_t mask, uint32_t rows)
+{
+    put_byte('T');
+    put_byte('B');
+    put_word(mask);
+    put_word(rows);
+}
+
+/* one column: 0, 1, and so on */
+static void put_column(uint32_t rows)
+{
+    uint32_t i;
+    for (i = 0; i < rows; i++)
+        put_word(i);
+}
+
+static void put_plan(const char *code, unsigned bytes)
+{
+    unsigned i;
+    put_byte('P');
+    put_byte('L');
+    put_byte(bytes);
+    for (i = 0; i < bytes; i++)
+        put_byte((unsigned char)code[i]);
+}
+
+/* that many tables of attribute 0 with that many rows, joined from the left on */
+static void put_tables(unsigned tables, uint32_t rows)
+{
+    char code[256];
+    unsigned i;
+    length = 0;
+    for (i = 0; i < tables; i++) {
+        put_table(1, rows);
+        put_column(rows);
+    }
+    memset(code, 255, tables - 1);
+    for (i = 0; i < tables; i++)
+        code[tables - 1 + i] = (char)i;
+    put_plan(code, 2 * tables - 1);
+}
+
+/* ---- calls */
+static uint32_t scratch[PIGROZD_MOST_SCRATCH_WORDS];
+static uint32_t output[PIGROZD_MOST_OUTPUT_WORDS + 1];
+
+static pigrozd_answer lent(size_t scratch_words, size_t output_words)
+{
+    return pigrozd_join(file, length, scratch, scratch_words, output, output_words);
+}
+
+static pigrozd_answer answer(void)
+{
+    return lent(PIGROZD_MOST_SCRATCH_WORDS, PIGROZD_MOST_OUTPUT_WORDS);
+}
+
+#define EXPECT_ANSWER(wanted_number, wanted_detail) \
+    do { \
+        pigrozd_answer given = answer(); \
+        EXPECT(given.number, wanted_number); \
+        EXPECT(given.detail, wanted_detail); \
+    } while (0)
+
+static void test_answers(void)
+{
+    length = 0;
+    EXPECT_ANSWER(PIGROZD_CUT_OFF, 0);
+    put_byte('T');
+    put_byte('C');
+    EXPECT_ANSWER(PIGROZD_NO_RECORD, 0);
+
+    put_tables(2, 3);
+    EXPECT_ANSWER(PIGROZD_JOINED, 0);
+    put_byte(0);
+    EXPECT_ANSWER(PIGROZD_BEHIND_PLAN, length - 1);
+
+    put_tables(2, 3);
+    file[length - 1] = 16;
+    EXPECT_ANSWER(PIGROZD_NOT_A_PLAN, 2);
+    file[length - 1] = 0;
+    EXPECT_ANSWER(PIGROZD_NOT_NAMED_ONCE, 2);
+
+    length = 0;
+    put_table(1, 0);
+    put_table(2, 0);
+    put_table(3, 0);
+    put_plan("\377\0\377\1\2", 5);
+    EXPECT_ANSWER(PIGROZD_NOT_WELL_BEHAVED, 0);
+
+    put_tables(2, 3);
+    EXPECT(lent(50, 3).number, PIGROZD_SCRATCH_SHORT);
+    EXPECT(lent(50, 3).detail, 51);
+    EXPECT(lent(51, 3).number, PIGROZD_JOINED);
+    EXPECT(lent(51, 2).number, PIGROZD_OUTPUT_SHORT);
+    EXPECT(lent(51, 2).detail, 3);
+    EXPECT(PIGROZD_COUNTS_DIFFER, 12);
+}
+
+static void test_limits(void)
+{
+    unsigned i;
+
+    put_tables(PIGROZD_MOST_TABLES, 1);
+    EXPECT_ANSWER(PIGROZD_JOINED, 0);
+    length = 0;
+    for (i = 0; i < PIGROZD_MOST_TABLES + 1; i++)
+        put_table(1, 0);
+    EXPECT_ANSWER(PIGROZD_TOO_MANY_TABLES, 10 * PIGROZD_MOST_TABLES);
+
+    put_tables(1, PIGROZD_MOST_ROWS);
+    EXPECT_ANSWER(PIGROZD_JOINED, 0);
+    put_tables(1, PIGROZD_MOST_ROWS + 1);
+    EXPECT_ANSWER(PIGROZD_TOO_MANY_ROWS, 0);
+
+    length = 0;
+    put_table((1u << PIGROZD_MOST_TABLE_ATTRIBUTES) - 1, 0);
+    put_plan("\0", 1);
+    EXPECT_ANSWER(PIGROZD_JOINED, 0);
+    length = 0;
+    put_table((2u << PIGROZD_MOST_TABLE_ATTRIBUTES) - 1, 0);
+    EXPECT_ANSWER(PIGROZD_ATTRIBUTE_COUNT, 0);
+    length = 0;
+    put_table(0, 0);
+    EXPECT_ANSWER(PIGROZD_ATTRIBUTE_COUNT, 0);
+
+    /* the last attribute */
+    length = 0;
+    put_table(1u << (PIGROZD_MOST_ATTRIBUTES - 1), 1);
+    put_word(77);
+    put_plan("\0", 1);
+    EXPECT_ANSWER(PIGROZD_JOINED, 0);
+    EXPECT(output[0], 77);
+
+    /* the longest plan: FFs alone, that end early */
+    length = 0;
+    put_byte('P');
+    put_byte('L');
+    put_byte(PIGROZD_MOST_PLAN_BYTES);
+    for (i = 0; i < PIGROZD_MOST_PLAN_BYTES; i++)
+        put_byte(255);
+    EXPECT_ANSWER(PIGROZD_NOT_A_PLAN, PIGROZD_MOST_PLAN_BYTES);
+
+    /* the most scratch */
+    put_tables(PIGROZD_MOST_TABLES, PIGROZD_MOST_ROWS);
+    EXPECT(lent(PIGROZD_MOST_SCRATCH_WORDS - 1, 0).number, PIGROZD_SCRATCH_SHORT);
+    EXPECT(lent(PIGROZD_MOST_SCRATCH_WORDS - 1, 0).detail, PIGROZD_MOST_SCRATCH_WORDS);
+    EXPECT(answer().number, PIGROZD_JOINED);
+    EXPECT(answer().rows, PIGROZD_MOST_ROWS);
+
+    /* the most output: 1,024 * 512 results of 2 values fill it, 1,024 * 513 are too many */
+    for (i = 0; i < 2; i++) {
+        length = 0;
+        put_table(1, 1024);
+        put_column(1024);
+        put_table(2, i == 0 ? 512 : 513);
+        put_column(i == 0 ? 512 : 513);
+        put_plan("\377\0\1", 3);
+        output[PIGROZD_MOST_OUTPUT_WORDS - 1] = 5;
+        output[PIGROZD_MOST_OUTPUT_WORDS] = 5;
+        if (i == 0) {
+            EXPECT(lent(PIGROZD_MOST_SCRATCH_WORDS, PIGROZD_MOST_OUTPUT_WORDS - 1).number, PIGROZD_OUTPUT_SHORT);
+            EXPECT(lent(PIGROZD_MOST_SCRATCH_WORDS, PIGROZD_MOST_OUTPUT_WORDS + 1).number, PIGROZD_JOINED);
+            EXPECT(output[PIGROZD_MOST_OUTPUT_WORDS - 1], 511);
+        } else {
+            EXPECT(lent(PIGROZD_MOST_SCRATCH_WORDS, PIGROZD_MOST_OUTPUT_WORDS + 1).number, PIGROZD_OUTPUT_SHORT);
+            EXPECT(output[PIGROZD_MOST_OUTPUT_WORDS - 1], 5);
+        }
+        EXPECT(output[PIGROZD_MOST_OUTPUT_WORDS], 5);
+    }
+
+    /* a number that is held: 4,096 * 4,096 * 4,096 results */
+    length = 0;
+    for (i = 0; i < 3; i++) {
+        put_table(1u << i, PIGROZD_MOST_ROWS);
+        put_column(PIGROZD_MOST_ROWS);
+    }
+    put_plan("\377\0\377\1\2", 5);
+    EXPECT_ANSWER(PIGROZD_OUTPUT_SHORT, PIGROZD_HOLD_LIMIT);
+}
+
+static void test_lengths(void)
+{
+    EXPECT(PIGROZD_MOST_BYTES, (uint64_t)-1 / 2);
+    EXPECT(PIGROZD_MOST_WORDS, PIGROZD_MOST_BYTES / 4);
+    EXPECT(sizeof(size_t), 8);
+    EXPECT(sizeof(pigrozd_answer), 56);
+}
+
+static void test_version(void)
+{
+    char text[64];
+    sprintf(text, "%d.%d.%d", PIGROZD_VERSION_MAJOR, PIGROZD_VERSION_MINOR, PIGROZD_VERSION_PATCH);
+    EXPECT(strcmp(text, PIGROZD_VERSION), 0);
+}
+
+int main(void)
+{
+    test_answers();
+    test_limits();
+    test_lengths();
+    test_version();
+    return failures == 0 ? 0 : 1;
+}
