@@ -12,7 +12,7 @@ test:
 
 # What takes minutes says so before it begins.
 say-first:
-	@test -e target/stamp/join || echo 'make: all crates below are proved first; about 3 minutes on 2 cores, once' >&2
+	@test -e target/stamp/join || echo 'make: everything is proved before it is built: 3 to 4 minutes on 2 cores, the first time' >&2
 
 .PHONY: run test say-first
 
@@ -59,6 +59,7 @@ check-c: lib target/bin/pigrozd
 	$(CC) $(STRICT) -Iinclude -o $(EXAMPLES)/join_file examples/c/join_file.c $(LIB)/libpigrozd.a
 	sh tests/test_join_file.sh $(EXAMPLES)/join_file
 	MAKE='$(MAKE)' CC='$(CC)' sh tests/test_install.sh
+	sh tests/test_pages.sh
 
 check-python: lib
 	python3 -m unittest tests/test_pigrozd.py
@@ -130,18 +131,18 @@ clean:
 # Times are of 2 cores.
 help:
 	@printf '%s\n' \
-	    'make run [FILE=path]   joins a file, or the sample; 3 minutes the first time, since all is proved first, then a second' \
+	    'make run [FILE=path]   joins a file, or the sample; 3 to 4 minutes the first time, since all is proved first, then a second' \
 	    'make test              rt ci: proves everything from nothing and tries the must-fail edits; 14 minutes' \
-	    'make lib               target/lib/libpigrozd.a and libpigrozd.so; 3 minutes the first time, then nothing' \
+	    'make lib               target/lib/libpigrozd.a and libpigrozd.so; 3 to 4 minutes the first time, 20 seconds after make run' \
 	    'make install [PREFIX=/usr/local] [DESTDIR=]' \
 	    '                       header, libraries, pkg-config file, program and manual pages; a second after make lib and make run' \
 	    'make uninstall         removes what make install put there; the same PREFIX and DESTDIR' \
 	    'make check-users       check-c, check-python and check-tools' \
-	    'make check-c           the header, the C examples and an installation; seconds after make lib and make run' \
+	    'make check-c           the header, the C examples and an installation; seconds after make lib' \
 	    'make check-python      the Python package over the shared library; seconds after make lib' \
-	    'make check-tools       the tools for tables and plans; seconds' \
+	    'make check-tools       the tools for tables and plans; 20 seconds' \
 	    'make bench             measures the join beside other joins; minutes' \
-	    'make check-bench       only whether these joins agree; a minute' \
+	    'make check-bench       only whether these joins agree; 15 seconds after make lib' \
 	    'make clean             removes target/, with all that is proved and built' \
 	    'make help              this list'
 

@@ -1,0 +1,49 @@
+#!/bin/sh
+# Tests that pages say what include/pigrozd.h says: names and numbers of the answers, limits, version; and that links of the
+# documents lead somewhere. make check-c runs it from the top of the repository.
+set -u
+room=$(mktemp -d) || exit 1
+trap 'rm -rf "$room"' EXIT
+failures=0
+
+same() { # WHAT WANTED FOUND
+    [ -s "$room/$2" ] && diff "$room/$2" "$room/$3" && return
+    echo "test_pages: $1"
+    failures=$((failures + 1))
+}
+
+# name and number of each answer
+sed -n 's/^    \(PIGROZD_[A-Z_]*\) = \([0-9]*\).*/\1 \2/p' include/pigrozd.h >"$room/answers"
+sed -n 's/^\(PIGROZD_[A-Z_]*\)	\([0-9]*\)	.*/\1 \2/p' man/pigrozd_join.3 | head -n 13 >"$room/manual"
+sed -n 's/^| \[\([0-9]*\)\].*| `\(PIGROZD_[A-Z_]*\)` |$/\2 \1/p' docs/answers/README.md >"$room/table"
+same 'the manual page has other answers' answers manual
+same 'docs/answers has other answers' answers table
+
+# what each refusal means
+sed -n 's/^    PIGROZD_[A-Z_]* = \([1-9][0-9]*\),* *\/\* \([^;]*\);.*/\1 \2/p' include/pigrozd.h >"$room/meanings"
+sed -n 's/^| \[\([1-9][0-9]*\)\]([0-9]*.md) | \([^|]*\) | .*/\1 \2/p' docs/answers/README.md | grep -v '^13 ' >"$room/table"
+same 'docs/answers says other words' meanings table
+
+# the limits
+sed -n 's/^#define \(PIGROZD_MOST_[A-Z_]*\|PIGROZD_HOLD_LIMIT\) \([0-9]*\).*/\1 \2/p' include/pigrozd.h |
+    grep -v -e PIGROZD_MOST_BYTES -e PIGROZD_MOST_WORDS >"$room/limits"
+sed -n 's/^\(PIGROZD_[A-Z_]*\)	\([0-9]*\)	.*/\1 \2/p' man/pigrozd_join.3 | tail -n +14 >"$room/manual"
+same 'the manual page has other limits' limits manual
+
+# the version
+version=$(sed -n 's/^#define PIGROZD_VERSION "\(.*\)"$/\1/p' include/pigrozd.h)
+for page in man/*; do
+    grep -q "^.TH .* \"Pigrozd $version\"" "$page" || { echo "test_pages: $page is of another version"; failures=$((failures + 1)); }
+done
+grep -q "^## $version" CHANGELOG.md || { echo "test_pages: CHANGELOG.md has no $version"; failures=$((failures + 1)); }
+
+# links to files
+for page in *.md docs/*.md docs/answers/*.md; do
+    sed 's/`[^`]*`//g' "$page" | grep -o ']([^)#]*[)#]' | sed 's/^](//; s/.$//' | grep -v '^https*:' | grep . | while read -r link; do
+        [ -e "$(dirname "$page")/$link" ] || echo "test_pages: $page leads to $link, which is not there"
+    done
+done >"$room/links"
+cat "$room/links"
+[ -s "$room/links" ] && failures=$((failures + 1))
+
+[ "$failures" -eq 0 ]
