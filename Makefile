@@ -102,7 +102,8 @@ INSTALLED = $(INCLUDEDIR)/pigrozd.h $(LIBDIR)/libpigrozd.a $(LIBDIR)/$(SHARED) $
 # a path of pkg-config's file, as one below ${prefix} where it is
 below = $(patsubst $(PREFIX)/%,$${prefix}/%,$(1))
 
-target/bin/pigrozd: crates.txt $(SOURCES)
+# (behind the library, so that rt runs once at a time under make -j)
+target/bin/pigrozd: crates.txt $(SOURCES) | $(LIB)/libpigrozd.a
 	rt check pigrozd
 	touch $@
 
