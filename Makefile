@@ -142,7 +142,7 @@ help:
 	    'make check-c           the header, the C examples and an installation; seconds after make lib' \
 	    'make check-python      the Python package over the shared library; seconds after make lib' \
 	    'make check-tools       the tools for tables and plans; 20 seconds' \
-	    'make bench             measures the join beside other joins; minutes' \
+	    'make bench             measures the join beside other joins; 2 minutes' \
 	    'make check-bench       only whether these joins agree; 15 seconds after make lib' \
 	    'make clean             removes target/, with all that is proved and built' \
 	    'make help              this list'
