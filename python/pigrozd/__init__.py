@@ -1,0 +1,26 @@
+"""Joins tables with the Pigrozd library.
+
+    import pigrozd
+
+    tables = {
+        "frames": {"frame": [10, 11, 12, 13], "exposure": [1, 2, 2, 4]},
+        "exposures": {"exposure": [1, 2, 2, 3], "reading": [7, 8, 9, 7]},
+        "readings": {"reading": [7, 7, 9], "centikelvin": [29510, 29510, 29530]},
+    }
+    result = pigrozd.join(tables, "(frames (exposures readings))")
+    result.names                # ('frame', 'exposure', 'reading', 'centikelvin')
+    list(result)[0]             # (10, 1, 7, 29510)
+    result.columns["frame"]     # array('I', [10, 10, 11, 12])
+
+Columns with one name, in different tables, are joined. What cannot be joined raises Refused, TypeError or ValueError.
+docs/PYTHON.md says more; `python3 -m pigrozd --help` joins CSV files.
+"""
+from .answers import MEANINGS, Refused
+from .joining import join, join_file, make_file
+from .library import Answer, LibraryError, call
+from .messages import InputError
+from .results import Counts, Result
+
+__version__ = "0.1.0"
+__all__ = ["join", "join_file", "make_file", "call", "Answer", "Counts", "Result", "Refused", "InputError", "LibraryError",
+           "MEANINGS", "__version__"]

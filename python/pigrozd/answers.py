@@ -1,0 +1,50 @@
+"""The answers of document 01: what each number means and what its detail is. This is the package's one table of them."""
+from typing import Dict, NamedTuple, Optional
+
+
+class Meaning(NamedTuple):
+    """What an answer's number means, and what its detail is. docs/answers has a page for each number."""
+    means: str
+    detail: str
+
+
+MEANINGS: Dict[int, Meaning] = {
+    0: Meaning("joined", "0"),
+    1: Meaning("the file is cut off", "offset of the record that is cut"),
+    2: Meaning("no record begins here", "offset"),
+    3: Meaning("a table with no attribute, or with more than 8", "offset of the table's record"),
+    4: Meaning("a table with more than 4,096 rows", "offset of the table's record"),
+    5: Meaning("a 17th table", "offset of its record"),
+    6: Meaning("something stands behind the plan", "offset of the first byte too many"),
+    7: Meaning("the plan's bytes are not a plan", "index in the plan"),
+    8: Meaning("the plan does not name each table once", "index in the plan"),
+    9: Meaning("the plan is not well-behaved", "index of an FF in the plan"),
+    10: Meaning("the scratch is too short", "words needed"),
+    11: Meaning("more results than the output fits", "number of results"),
+    12: Meaning("two counts of the results differ", "0"),
+    13: Meaning("standard input is too long", "65536"),
+}
+
+LAST_OF_RECORDS = 6  # answers up to this one have an offset in the file as their detail, or are 0
+LAST_OF_PLANS = 9  # further answers up to this one have an index in the plan as their detail
+
+
+class Refused(Exception):
+    """A refusal: the answer's number and detail, and why in the words of who gave the tables.
+
+    `table` is the number of the table that is at fault where the number is 3, 4 or 5, else None."""
+
+    def __init__(self, number: int, detail: int, why: str = "", table: Optional[int] = None) -> None:
+        super().__init__(number, detail, why, table)
+        self.number, self.detail, self.why, self.table = number, detail, why, table
+
+    @property
+    def meaning(self) -> str:
+        """What the answer means, in one sentence."""
+        meaning = MEANINGS[self.number]
+        if self.why:
+            return "%s: %s" % (meaning.means, self.why)
+        return "%s (%s: %d)" % (meaning.means, meaning.detail, self.detail)
+
+    def __str__(self) -> str:
+        return "refused %d %d: %s" % (self.number, self.detail, self.meaning)

@@ -1,0 +1,159 @@
+"""The command line: its arguments, its errors in words, its exit status.
+
+0: joined, or done. 1: refused, or a plan that is not well-behaved. 2: wrong usage, or a file that cannot be read or
+written. 130: interrupted.
+"""
+import argparse
+import sys
+from typing import Any, List, Optional, Sequence
+
+from . import __version__, commands
+from .answers import Refused
+from .messages import InputError
+from .streams import PROGRAM, drop, tell
+
+REFUSED, UNUSABLE, INTERRUPTED = 1, 2, 130
+
+ABOUT = """Joins tables. `pigrozd join a.csv b.csv --plan '(a b)'` joins CSV files; the other commands are for packed files:
+tables and a plan in one file, as document 01 says. `pigrozd COMMAND --help` says more of each, docs/TOOLS.md has examples."""
+
+
+def main(arguments: Optional[Sequence[str]] = None) -> int:
+    """Runs a command; its exit status. Whatever a user can do ends with one, and with a message if it is not 0."""
+    for stream in (sys.stdout, sys.stderr):
+        if hasattr(stream, "reconfigure"):  # whatever the locale: CSV files and names are UTF-8
+            stream.reconfigure(encoding="utf-8", errors="surrogateescape")
+    try:
+        return run(arguments)
+    except SystemExit as end:  # of argparse: help, version, or wrong usage that was told
+        return flushed(end.code if isinstance(end.code, int) else UNUSABLE)
+    except Refused as refused:
+        tell(str(refused))
+        return REFUSED
+    except InputError as error:
+        tell(str(error))
+    except BrokenPipeError:  # the reader wants no more; it need not be told
+        drop(sys.stdout)
+    except OSError as error:
+        tell("%s: %s" % (error.filename, error.strerror) if error.filename and error.strerror else str(error))
+    except KeyboardInterrupt:
+        return INTERRUPTED
+    return UNUSABLE
+
+
+def flushed(status: int) -> int:
+    """The status, if what argparse printed could be written."""
+    try:
+        if sys.stdout is not None:
+            sys.stdout.flush()
+        return status
+    except OSError as error:
+        drop(sys.stdout)
+        tell("standard output: %s" % error.strerror)
+        return UNUSABLE
+
+
+def run(arguments: Optional[Sequence[str]]) -> int:
+    """Reads the arguments and runs their command."""
+    parser = parser_of_all()
+    found, unread = parser.parse_known_args(arguments)
+    take_files(parser, found, unread)
+    status: int = found.run(found)
+    return status
+
+
+def take_files(parser: argparse.ArgumentParser, found: argparse.Namespace, unread: List[str]) -> None:
+    """Takes files that stand behind an option to those before it. argparse reads one group of them only."""
+    if unread and (not hasattr(found, "files") or any(word.startswith("-") for word in unread)):
+        parser.error("unrecognized arguments: " + " ".join(unread))
+    if unread:
+        found.files += unread
+
+
+# ---- arguments
+def parser_of_all() -> argparse.ArgumentParser:
+    """The parser of all commands."""
+    parser = argparse.ArgumentParser(prog=PROGRAM, description=ABOUT)
+    parser.add_argument("--version", action="version", version="%s %s" % (PROGRAM, __version__))
+    subparsers = parser.add_subparsers(title="commands", metavar="COMMAND", dest="command", required=True)
+    for add in (add_join, add_pack, add_unpack, add_rows, add_dump, add_plan):
+        add(subparsers)
+    return parser
+
+
+def add_command(subparsers: Any, function: Any, about: str) -> argparse.ArgumentParser:
+    """The parser of one command, which is called as the function that runs it."""
+    help_line = (function.__doc__ or "").split(". ")[0].rstrip(".")
+    parser: argparse.ArgumentParser = subparsers.add_parser(function.__name__, help=help_line, description=about)
+    parser.set_defaults(run=function)
+    return parser
+
+
+def add_csv_options(parser: argparse.ArgumentParser) -> None:
+    """The options of how CSV files are read."""
+    parser.add_argument("--attributes", metavar="NAME,NAME,..", help="attributes in the order of their numbers, from 0 on; an "
+                        "empty name leaves its number free (without this: in order of first appearance)")
+    parser.add_argument("--text", metavar="NAME,..", help="these attributes hold texts and not numbers")
+
+
+def add_join(subparsers: Any) -> None:
+    """pigrozd join"""
+    p = add_command(subparsers, commands.join, "Joins CSV files, or one packed file, and writes the rows as CSV. The first line "
+                    "of a CSV file has the names of its attributes; attributes with one name are joined. A table is called as "
+                    "its file, without folder and ending. Values are 0 to 4294967295. One file whose name does not end in .csv "
+                    "is a packed file.")
+    p.add_argument("files", metavar="FILE", nargs="+", help="CSV files, up to 16 of up to 4,096 rows; or a packed file")
+    p.add_argument("--plan", help="such as '(frames (exposures readings))'; needed where there are several CSV files, and in "
+                   "place of its own with a packed file")
+    p.add_argument("-o", "--output", metavar="OUT", help="the file to write (without this: standard output)")
+    p.add_argument("--explain", action="store_true", help="draw the plan on standard error, with the work that was done")
+    add_csv_options(p)
+
+
+def add_pack(subparsers: Any) -> None:
+    """pigrozd pack"""
+    p = add_command(subparsers, commands.pack, "Packs CSV files, read as `pigrozd join` reads them, and a plan into the file OUT; "
+                    "the names are kept in OUT.names. What was packed before is replaced, other files are not.")
+    p.add_argument("out", metavar="OUT", help="the file to write; OUT.names gets the names")
+    p.add_argument("files", metavar="CSV", nargs="+", help="the tables, in the order of their numbers")
+    p.add_argument("--plan", help="such as '(frames (exposures readings))'; needed where there are several tables")
+    add_csv_options(p)
+    p.add_argument("--anyway", action="store_true", help="write the file though it will be refused")
+    p.add_argument("--force", action="store_true", help="replace OUT and OUT.names whatever they are; never one of the CSV files")
+
+
+def add_unpack(subparsers: Any) -> None:
+    """pigrozd unpack"""
+    p = add_command(subparsers, commands.unpack, "Writes the tables of a packed file as CSV files, and prints the command that "
+                    "packs them again.")
+    p.add_argument("file", metavar="FILE")
+    p.add_argument("dir", metavar="DIR", help="the folder for the CSV files; made if it is not there")
+    p.add_argument("--force", action="store_true", help="replace CSV files that are there")
+
+
+def add_rows(subparsers: Any) -> None:
+    """pigrozd rows"""
+    p = add_command(subparsers, commands.rows, "Writes what the program target/bin/pigrozd printed for FILE as CSV with the names "
+                    "of the attributes.")
+    p.add_argument("file", metavar="FILE", help="the packed file that was joined")
+    p.add_argument("print", metavar="PRINT", nargs="?", help="the program's print (without this: standard input)")
+
+
+def add_dump(subparsers: Any) -> None:
+    """pigrozd dump"""
+    p = add_command(subparsers, commands.dump, "Shows any file: records with offsets, masks, columns, plan. The byte that an "
+                    "answer's detail points at is marked: the answer given, or else the first one from 1 to 9 that is due.")
+    p.add_argument("file", metavar="FILE")
+    p.add_argument("--answer", metavar=("NUMBER", "DETAIL"), nargs=2, type=int, help="as in: refused NUMBER DETAIL")
+    p.add_argument("--all", action="store_true", help="leave nothing of a long column out")
+
+
+def add_plan(subparsers: Any) -> None:
+    """pigrozd plan"""
+    p = add_command(subparsers, commands.plan, "Draws a plan: each join with its key, the tables that are compared and their "
+                    "rows, and why it is or is not well-behaved. The status is 1 if it is not. FILE alone: its own plan; with "
+                    "--plan another one for its tables. PLAN --tables: a plan for CSV files, or for tables to come.")
+    p.add_argument("what", metavar="FILE|PLAN", help="a packed file; with --tables a plan, such as '(a (b c))'")
+    p.add_argument("--plan", help="draw this plan in place of the file's own")
+    p.add_argument("--tables", metavar="TABLE", nargs="+", help="CSV files, or NAME=ATTRIBUTE,ATTRIBUTE,..")
+    p.add_argument("--dot", action="store_true", help="as Graphviz DOT: pigrozd plan FILE --dot | dot -Tsvg > plan.svg")

@@ -1,0 +1,261 @@
+"""The commands: what each does with its arguments. commandline.py reads these and tells errors."""
+import argparse
+import os
+import re
+import shlex
+from typing import List, Optional, Sequence, Tuple
+
+from . import csvfiles, dumps, fileformat, files, plans
+from . import names as filenames
+from .answers import LAST_OF_PLANS, LAST_OF_RECORDS, MEANINGS, Refused
+from .drawing import Drawing
+from .joining import join_bytes
+from .limits import PROGRAM_BYTES, PROGRAM_WORDS
+from .messages import InputError, count
+from .names import Names
+from .streams import standard_input, tell, write_out
+
+Arguments = argparse.Namespace
+
+
+# ---- what is joined
+def load_packed(path: str) -> Tuple[bytes, Names]:
+    """The bytes of a packed file, and the names beside it."""
+    data = files.load(path)
+    return data, filenames.beside(path, data, lambda text: tell("warning: " + text))
+
+
+def is_packed(paths: Sequence[str]) -> bool:
+    """Whether a packed file is given: one file alone, whose name does not end in .csv."""
+    return len(paths) == 1 and not paths[0].lower().endswith(csvfiles.ENDING)
+
+
+def load_inputs(a: Arguments) -> Tuple[bytes, Names]:
+    """The file to join: packed out of CSV files, or given packed, then with another plan if one is given."""
+    if not is_packed(a.files):
+        return csvfiles.pack([csvfiles.read(path) for path in a.files], a.plan, a.attributes, a.text)
+    if a.attributes is not None or a.text is not None:
+        raise InputError("--attributes and --text go with CSV files, and %s is taken as a packed file" % a.files[0])
+    data, names = load_packed(a.files[0])
+    file = fileformat.read(data, names)
+    if file.fault and file.fault.number <= 2 and file.fault.detail == 0:
+        raise InputError("%s: %s; a CSV file's name ends in .csv" % (a.files[0], file.fault))
+    if a.plan is not None and file.plan_at is not None:
+        data = data[:file.plan_at] + fileformat.plan_record(plans.code_of(a.plan, table_names(file, names)))
+    return data, names
+
+
+def table_names(file: fileformat.File, names: Names) -> List[str]:
+    """The names of a file's tables, in the order of their numbers."""
+    return [names.table(number) for number in range(len(file.tables))]
+
+
+# ---- join
+def join(a: Arguments) -> int:
+    """Joins CSV files or a packed file, and writes the rows as CSV."""
+    if a.output is not None:
+        files.refuse_target(a.output, a.files + [path + filenames.ENDING for path in a.files])
+    data, names = load_inputs(a)
+    file = fileformat.read(data, names)
+    drawing = Drawing(file.plan, file.tables, names) if a.explain and file.plan else None
+    if drawing:
+        tell("\n".join(drawing.tree()), prefix="")
+    result = join_bytes(data, names)
+    if drawing:
+        tell("\n".join([""] + drawing.work(result)), prefix="")
+    text = csvfiles.columns_text([(int(a), column) for a, column in result.columns.items()], names)
+    if a.output is None:
+        write_out(text)
+    else:
+        files.save([(a.output, text.encode("utf-8"))])
+    return 0
+
+
+# ---- pack
+def pack(a: Arguments) -> int:
+    """Packs CSV files into a file of document 01, with its names beside it."""
+    named = a.out + filenames.ENDING
+    for path in (a.out, named):
+        files.refuse_target(path, a.files)
+    if not a.force:
+        refuse_foreign(a.out)
+    sheets = [csvfiles.read(path) for path in a.files]
+    data, names = csvfiles.pack(sheets, a.plan, a.attributes, a.text)
+    file = fileformat.read(data, names)
+    if file.fault and not a.anyway:
+        tell("%s; nothing is written (--anyway writes it, pigrozd plan draws it)" % file.fault)
+        return 1
+    files.save([(a.out, data), (named, filenames.to_text(names, data).encode("utf-8"))])
+    write_out("%s: %s, %s, %s\n" % (a.out, count(len(data), "byte"), count(len(file.tables), "table"),
+                                    count(file.row_count(), "row")))
+    note = program_refuses(file)
+    if note:
+        tell("note: " + note)
+    return 0
+
+
+def refuse_foreign(out: str) -> None:
+    """Refuses to replace what pack did not write: OUT and OUT.names are replaced if the digest in OUT.names is OUT's."""
+    text = filenames.load_text(out) if os.path.exists(out + filenames.ENDING) else None
+    written = os.path.exists(out) and files.load(out)
+    if text is not None and (not written or filenames.digest_in(text) != filenames.digest(written)):
+        raise InputError("%s%s is there and was not packed with %s; it is left as it is (--force replaces it)" % (
+            out, filenames.ENDING, out))
+    if text is None and written:
+        raise InputError("%s is there and was not packed here; it is left as it is (--force replaces it)" % out)
+
+
+def program_refuses(file: fileformat.File) -> Optional[str]:
+    """Why the program, which lends fixed buffers, refuses a file that was packed; None if it does not."""
+    if file.fault:
+        return str(file.fault)
+    if len(file.data) > PROGRAM_BYTES:
+        return "the program says 13 to a file of more than 65,536 bytes; pigrozd join takes it"
+    need = plans.words_needed(file.plan, file.tables) if file.plan else 0
+    if need > PROGRAM_WORDS:
+        return "the program says 10, it lends 16,384 words of scratch; pigrozd join takes the file with {:,}".format(need)
+    return None
+
+
+# ---- unpack
+def unpack(a: Arguments) -> int:
+    """Writes the tables of a packed file as CSV files, and prints the command that packs them again."""
+    data, names = load_packed(a.file)
+    file = fileformat.read(data, names)
+    if file.fault and file.fault.number < LAST_OF_RECORDS:
+        raise file.fault
+    paths = [os.path.join(a.dir, name + csvfiles.ENDING) for name in table_names(file, names)]
+    texts = [csvfiles.table_text(file, table, names) for table in file.tables]
+    for path in paths:
+        files.refuse_target(path, [a.file, a.file + filenames.ENDING])
+        if os.path.exists(path) and not a.force:
+            raise InputError("%s is there already (--force replaces it)" % path)
+    os.makedirs(a.dir, exist_ok=True)
+    files.save([(path, text.encode("utf-8")) for path, text in zip(paths, texts)])
+    if file.fault or not file.plan:
+        tell("%s: the tables are written, but the plan is bad: %s" % (a.file, file.fault))
+        return 1
+    write_out(command_to_pack(a.file, file, names, paths) + "\n")
+    return 0
+
+
+def command_to_pack(out: str, file: fileformat.File, names: Names, paths: Sequence[str]) -> str:
+    """The command that makes the same file of the CSV files."""
+    used = plans.width(file.tables)
+    attributes = csvfiles.csv_line([names.attribute(n) if n in used else "" for n in range(max(used, default=-1) + 1)])
+    plan = plans.to_text(file.plan, names) if file.plan else ""
+    command = ["pigrozd", "pack", out, "--plan", plan, "--attributes", attributes]
+    texts = [names.attribute(n) for n in used if n in names.texts]
+    if texts:
+        command += ["--text", csvfiles.csv_line(texts)]
+    return " ".join(shlex.quote(word) for word in [*command, *paths])
+
+
+# ---- rows
+def rows(a: Arguments) -> int:
+    """Writes what the program printed for a file as CSV with the names of the attributes."""
+    data, names = load_packed(a.file)
+    file = fileformat.read(data, names)
+    where = a.print or "standard input"
+    found = printed_rows(files.load(a.print) if a.print else standard_input(), where, a.file)
+    if file.fault:
+        raise InputError("%s: %s; so it is not the file of this print" % (a.file, file.fault))
+    attributes = plans.width(file.tables)
+    for at, row in enumerate(found, 2):
+        if len(row) != len(attributes):
+            raise InputError("%s, line %d: %s, but a result of %s has %d" % (
+                where, at, count(len(row), "value"), a.file, len(attributes)))
+    columns = [(n, [row[place] for row in found]) for place, n in enumerate(attributes)]
+    write_out(csvfiles.columns_text(columns, names))
+    return 0
+
+
+def printed_rows(text: bytes, where: str, path: str) -> List[List[int]]:
+    """The rows in what the program printed."""
+    lines = text.decode("ascii", "replace").splitlines() or [""]
+    refused = re.fullmatch("refused ([0-9]{1,2}) ([0-9]{1,20})", lines[0])
+    if refused and 0 < int(refused[1]) < len(MEANINGS):
+        raise Refused(int(refused[1]), int(refused[2]), "so %s says; pigrozd dump %s --answer %s %s shows the place" % (
+            where, shlex.quote(path), refused[1], refused[2]))
+    head = re.fullmatch("rows ([0-9]{1,7})", lines[0])
+    if not head:
+        raise InputError("%s, line 1: expected rows N or refused NUMBER DETAIL, found %r" % (where, lines[0][:80]))
+    out = int(head[1])
+    body, tail = lines[1:1 + out], lines[1 + out:]
+    for at, line in enumerate(body, 2):
+        if not re.fullmatch("[0-9]{1,10}( [0-9]{1,10})*", line):
+            raise InputError("%s, line %d: expected a row, found %r" % (where, at, line[:80]))
+    if len(tail) != 1 or not re.fullmatch("steps( [0-9]+){4}", tail[0]):
+        raise InputError("%s: %s and then steps expected behind line 1, found %s" % (
+            where, count(out, "row"), count(len(lines) - 1, "line")))
+    return [list(map(int, line.split())) for line in body]
+
+
+# ---- dump
+def dump(a: Arguments) -> int:
+    """Shows a packed file, whole or bad, record by record."""
+    if a.answer and not (a.answer[0] in MEANINGS and a.answer[1] >= 0):
+        raise InputError("--answer %d %d: there is no such answer (docs/answers/README.md)" % tuple(a.answer))
+    try:
+        data, names = load_packed(a.file)
+    except InputError as error:  # of the names; the file is shown all the same
+        tell("warning: %s; names are left out" % error)
+        data, names = files.load(a.file), Names()
+    file = fileformat.read(data, names)
+    write_out("\n".join(dumps.dump(a.file, file, names, a.all, tuple(a.answer) if a.answer else None)) + "\n")
+    return 0
+
+
+# ---- plan
+def plan(a: Arguments) -> int:
+    """Draws a plan. The status is 1 if it is not well-behaved."""
+    if a.tables and a.plan is not None:
+        raise InputError("--plan goes with a FILE, --tables with a PLAN")
+    if not a.tables and a.what.startswith("("):
+        raise InputError("a PLAN needs --tables")
+    drawing = drawing_of_tables(a.what, a.tables) if a.tables else drawing_of_file(a.what, a.plan)
+    write_out("\n".join(drawing.dot() if a.dot else drawing.tree()) + "\n")
+    return 1 if drawing.broken() else 0
+
+
+def drawing_of_file(path: str, text: Optional[str]) -> Drawing:
+    """The drawing of a packed file's plan, or of another plan for its tables."""
+    data, names = load_packed(path)
+    file = fileformat.read(data, names)
+    if file.fault and file.fault.number <= (LAST_OF_RECORDS if text is not None else LAST_OF_PLANS - 1):
+        raise file.fault
+    if text is None and file.plan:
+        return Drawing(file.plan, file.tables, names)
+    return checked_drawing(text or "", file.tables, names)
+
+
+def drawing_of_tables(text: str, given: Sequence[str]) -> Drawing:
+    """The drawing of a plan for CSV files, or for tables given as NAME=ATTRIBUTE,ATTRIBUTE."""
+    sheets = [given_table(table) for table in given]
+    names = csvfiles.names_of([sheet for sheet, _ in sheets])
+    shapes = [plans.Shape(csvfiles.attributes_of(sheet, names), rows) for sheet, rows in sheets]
+    return checked_drawing(text, shapes, names)
+
+
+def given_table(text: str) -> Tuple[csvfiles.Sheet, Optional[int]]:
+    """A table of --tables with its number of rows: a CSV file, or NAME=ATTRIBUTE,.. whose rows are not known."""
+    found = re.fullmatch("([^=/]+)=(.+)", text, re.DOTALL)
+    if not found:
+        sheet = csvfiles.read(text)
+        return sheet, len(sheet.rows)
+    sheet = csvfiles.Sheet(text)
+    sheet.name = found[1]
+    fault = filenames.fault_of_table_name(sheet.name)
+    if fault:
+        raise InputError("--tables %s: %s" % (text, fault))
+    csvfiles.read_header(sheet, 1, csvfiles.name_list(found[2], "--tables"))
+    return sheet, None
+
+
+def checked_drawing(text: str, tables: Sequence[plans.Shape], names: Names) -> Drawing:
+    """The drawing of a plan given as text. A plan that does not name each table once is refused."""
+    code = plans.code_of(text, [names.table(number) for number in range(len(tables))])
+    fault = plans.check(code, tables, names)
+    if fault and fault.number < LAST_OF_PLANS:
+        raise fault
+    return Drawing(plans.from_bytes(code), tables, names)

@@ -1,0 +1,238 @@
+"""Tables from CSV files and to them: the first line has the names of the attributes, each further line is a row."""
+import csv
+import io
+import os
+import re
+import struct
+from typing import Any, Dict, Iterable, List, Optional, Sequence, Tuple
+
+from . import plans
+from .fileformat import PLAN_MARK, TABLE_MARK, File, Table, plan_record, table_record
+from .limits import ATTRIBUTE_NUMBERS, MOST_ATTRIBUTES, MOST_ROWS, MOST_TABLES
+from .messages import InputError, count
+from .names import Names, fault_of_attribute_name, fault_of_table_name
+from .values import LARGEST, value_of_text
+
+ENDING = ".csv"
+
+
+class Sheet:
+    """A CSV file: the table's name, the names of its attributes, its rows as texts with the lines that they begin on."""
+
+    def __init__(self, path: str) -> None:
+        self.path = path
+        self.name = os.path.splitext(os.path.basename(path))[0]
+        self.header: List[str] = []
+        self.header_line = 1
+        self.rows: List[List[str]] = []
+        self.lines: List[int] = []
+
+    def error(self, line: int, column: Optional[int], what: str) -> InputError:
+        """An error at a line and, if it is not None, at a column; both count from 1."""
+        where = "%s, line %d" % (self.path, line)
+        if column is not None:
+            name = self.header[column] if column < len(self.header) else ""
+            where += ", column %d%s" % (column + 1, name and " (%s)" % name)
+        return InputError("%s: %s" % (where, what))
+
+
+# ---- reading
+def read(path: str) -> Sheet:
+    """The table in a CSV file, which is read once, as a stream."""
+    sheet = Sheet(path)
+    fault = fault_of_table_name(sheet.name)
+    if fault:
+        raise InputError("%s: %s" % (path, fault))
+    with open(path, "rb") as stream:
+        start = stream.peek(16)[:16]
+        if start[:2] in (TABLE_MARK, PLAN_MARK) and b"\0" in start:
+            raise InputError("%s: a packed file, not CSV; a packed file is joined alone" % path)
+        read_lines(sheet, io.TextIOWrapper(stream, encoding="utf-8-sig", newline=""))
+    if not sheet.header:
+        raise InputError("%s, line 1: the line with the names of the attributes is missing" % path)
+    return sheet
+
+
+def read_lines(sheet: Sheet, text: Iterable[str]) -> None:
+    """Reads the header and the rows into the sheet."""
+    reader = csv.reader(text, strict=True)
+    end = 0  # the line on which the row before ends
+    try:
+        for cells in reader:
+            line, end = end + 1, reader.line_num
+            if cells and not sheet.header:
+                read_header(sheet, line, cells)
+            elif cells:
+                read_row(sheet, line, cells)
+    except UnicodeDecodeError:
+        raise InputError("%s, behind line %d: not UTF-8 text" % (sheet.path, end)) from None
+    except csv.Error as error:
+        raise InputError("%s, line %d: not CSV: %s" % (sheet.path, reader.line_num, error)) from None
+
+
+def read_header(sheet: Sheet, line: int, cells: Sequence[str]) -> None:
+    """Takes the names of the attributes into the sheet."""
+    sheet.header_line = line
+    for column, name in enumerate(cell.strip() for cell in cells):
+        fault = fault_of_attribute_name(name) or (name in sheet.header and "%s stands in this line already" % name)
+        if fault:
+            raise sheet.error(line, column, fault)
+        sheet.header.append(name)
+    if len(cells) > MOST_ATTRIBUTES:
+        raise sheet.error(line, MOST_ATTRIBUTES, "a table has at most %d attributes" % MOST_ATTRIBUTES)
+
+
+def read_row(sheet: Sheet, line: int, cells: List[str]) -> None:
+    """Takes one row into the sheet."""
+    if len(cells) != len(sheet.header):
+        raise sheet.error(line, None, "%s, but the first line names %s" % (
+            count(len(cells), "value"), count(len(sheet.header), "attribute")))
+    if len(sheet.rows) == MOST_ROWS:
+        raise sheet.error(line, None, "a table has at most {:,} rows, and this is one more; split the file".format(MOST_ROWS))
+    sheet.rows.append(cells)
+    sheet.lines.append(line)
+
+
+# ---- attributes
+def name_list(text: str, option: str) -> List[str]:
+    """The names in an option's text, separated by commas as in a line of a CSV file."""
+    try:
+        return [name.strip() for line in csv.reader([text], strict=True) for name in line]
+    except csv.Error as error:
+        raise InputError("%s %s: %s" % (option, text, error)) from None
+
+
+def given_numbers(text: str) -> Dict[int, str]:
+    """Attribute names by number, as --attributes has them. An empty name leaves its number free."""
+    numbers = {number: name for number, name in enumerate(name_list(text, "--attributes")) if name}
+    for number, name in numbers.items():
+        fault = fault_of_attribute_name(name)
+        if list(numbers.values()).index(name) != list(numbers).index(number):
+            fault = "a name stands there twice"
+        if fault:
+            raise InputError("--attributes %s: %s" % (text, fault))
+    return numbers
+
+
+def number_attributes(sheets: Sequence[Sheet], given: Optional[str] = None) -> Dict[int, str]:
+    """Attribute names by number: as given, or in order of first appearance."""
+    numbers = {} if given is None else given_numbers(given)
+    for sheet in sheets:
+        for column, name in enumerate(sheet.header):
+            if name not in numbers.values():
+                if given is not None:
+                    raise sheet.error(sheet.header_line, column, "not among --attributes " + given)
+                numbers[len(numbers)] = name
+    if max(numbers, default=0) >= ATTRIBUTE_NUMBERS:
+        raise InputError("a file has at most %d attributes, these have %d: %s" % (
+            ATTRIBUTE_NUMBERS, max(numbers) + 1, ", ".join(numbers.values())))
+    return numbers
+
+
+def names_of(sheets: Sequence[Sheet], attributes: Optional[str] = None) -> Names:
+    """The names of the sheets' tables and attributes."""
+    if len(sheets) > MOST_TABLES:
+        raise InputError("a file has at most %d tables, these are %d" % (MOST_TABLES, len(sheets)))
+    names = Names()
+    names.attributes = number_attributes(sheets, attributes)
+    for number, sheet in enumerate(sheets):
+        if sheet.name in names.tables.values():
+            raise InputError("%s: a table called %s was given already" % (sheet.path, sheet.name))
+        names.tables[number] = sheet.name
+    return names
+
+
+def attributes_of(sheet: Sheet, names: Names) -> List[int]:
+    """The numbers of a sheet's attributes, rising."""
+    return sorted(number for number, name in names.attributes.items() if name in sheet.header)
+
+
+# ---- packing
+def pack(sheets: Sequence[Sheet], plan: Optional[str], attributes: Optional[str] = None,
+         texts: Optional[str] = None) -> Tuple[bytes, Names]:
+    """The bytes of a file with these tables and this plan, and its names. Attributes named in `texts` hold texts."""
+    names = names_of(sheets, attributes)
+    for text in name_list(texts, "--text") if texts else []:
+        numbers = [number for number, name in names.attributes.items() if name == text]
+        if not numbers:
+            raise InputError("--text %s: no attribute is called %s" % (texts, text))
+        names.texts[numbers[0]] = {}
+    if plan is None and len(sheets) > 1:
+        raise InputError("--plan is missing: it says how %s are joined, such as '(%s %s)'" % (
+            count(len(sheets), "table"), sheets[0].name, sheets[1].name))
+    code = plans.code_of(0 if plan is None else plan, [sheet.name for sheet in sheets])
+    return b"".join(record_of(sheet, names) for sheet in sheets) + plan_record(code), names
+
+
+def record_of(sheet: Sheet, names: Names) -> bytes:
+    """The table record of a sheet."""
+    columns = [(a, column_of(sheet, a, names)) for a in attributes_of(sheet, names)]
+    return table_record(columns, len(sheet.rows))
+
+
+def column_of(sheet: Sheet, attribute: int, names: Names) -> bytes:
+    """A column's values as words. Texts get numbers, those of `names` first."""
+    column = sheet.header.index(names.attributes[attribute])
+    if attribute in names.texts:
+        values = text_values(sheet, column, names.texts[attribute])
+    else:
+        values = []
+        for line, row in zip(sheet.lines, sheet.rows):
+            value = value_of_text(row[column])
+            if value is None:
+                raise sheet.error(line, column, "%.60r is not a number from 0 to %d" % (row[column], LARGEST))
+            values.append(value)
+    return struct.pack("<%dI" % len(values), *values)
+
+
+def text_values(sheet: Sheet, column: int, texts: Dict[int, str]) -> List[int]:
+    """The numbers of a column's texts. Texts that are new are taken into `texts`."""
+    numbers = {text: number for number, text in texts.items()}
+    values = []
+    for line, row in zip(sheet.lines, sheet.rows):
+        text = row[column]
+        if re.search(r"[\r\n]", text):
+            raise sheet.error(line, column, "a text with a line break")
+        values.append(numbers.setdefault(text, len(numbers)))
+        texts[values[-1]] = text
+    return values
+
+
+# ---- writing
+def csv_text(header: Iterable[str], rows: Iterable[Sequence[Any]]) -> str:
+    """CSV with this first line and these rows."""
+    text = io.StringIO()
+    writer = csv.writer(text, lineterminator="\n")
+    writer.writerow(header)
+    writer.writerows(rows)
+    return text.getvalue()
+
+
+def csv_line(cells: Sequence[str]) -> str:
+    """One line of CSV, without its end."""
+    text = io.StringIO()
+    csv.writer(text, lineterminator="").writerow(cells)
+    return text.getvalue()
+
+
+def columns_text(columns: Sequence[Tuple[int, Sequence[int]]], names: Names) -> str:
+    """CSV of columns, each with its attribute."""
+    shown = [shown_values(values, attribute, names) for attribute, values in columns]
+    return csv_text([names.attribute(attribute) for attribute, _ in columns], zip(*shown))
+
+
+def table_text(file: File, table: Table, names: Names) -> str:
+    """CSV of a table of a file."""
+    return columns_text([(a, file.values(table, place)) for place, a in enumerate(table.attributes)], names)
+
+
+def shown_values(values: Sequence[int], attribute: int, names: Names) -> Sequence[Any]:
+    """The values of an attribute as CSV shows them: as numbers, or as the texts that they stand for."""
+    texts = names.texts.get(attribute)
+    if texts is None:
+        return values
+    for value in values:
+        if value not in texts:
+            raise InputError("value %d of attribute %d %s stands for no text in the file of names" % (
+                value, attribute, names.attribute(attribute)))
+    return [texts[value] for value in values]

@@ -1,0 +1,153 @@
+"""A file of document 01: its records, read as far as answer 9 goes, and written. The package's one reader and one writer."""
+import struct
+from typing import List, Optional, Sequence, Tuple
+
+from . import plans
+from .answers import LAST_OF_PLANS, LAST_OF_RECORDS, Refused
+from .limits import ATTRIBUTE_NUMBERS, MOST_ATTRIBUTES, MOST_ROWS, MOST_TABLES
+from .names import Names
+from .messages import count
+
+TABLE_MARK, PLAN_MARK = b"TB", b"PL"
+HEAD = 10  # bytes of a table record before its columns: mark, mask, row count
+PLAN_HEAD = 3  # bytes of a plan record before the plan: mark, length
+
+
+class Table(plans.Shape):
+    """A table record: the offset of its mark, its attributes in rising order, its number of rows."""
+
+    rows: int
+
+    def __init__(self, at: int, attributes: Sequence[int], rows: int) -> None:
+        super().__init__(attributes, rows)
+        self.at = at
+
+    def column(self, place: int) -> Tuple[int, int]:
+        """Where the column at this place begins and ends."""
+        start = self.at + HEAD + 4 * self.rows * place
+        return start, start + 4 * self.rows
+
+    def end(self) -> int:
+        """Where the record ends."""
+        return self.column(len(self.attributes))[0]
+
+
+class File:
+    """What is in a file's bytes.
+
+    `fault` is the first refusal from 1 to 9 that is due, or None. `plan_at` is the offset of a plan record that is whole,
+    `code` has its plan's bytes, and `plan` is its tree if it is spelled right and names each table once."""
+
+    def __init__(self, data: bytes) -> None:
+        self.data = data
+        self.tables: List[Table] = []
+        self.plan_at: Optional[int] = None
+        self.code = b""
+        self.plan: Optional[plans.Plan] = None
+        self.fault: Optional[Refused] = None
+
+    def values(self, table: Table, place: int) -> List[int]:
+        """The values of a table's column."""
+        start, end = table.column(place)
+        return list(struct.unpack("<%dI" % table.rows, self.data[start:end]))
+
+    def row_count(self) -> int:
+        """The rows of all tables together."""
+        return sum(table.rows for table in self.tables)
+
+
+# ---- reading
+def number_at(data: bytes, at: int) -> int:
+    """The number in the 4 bytes at an offset."""
+    return int.from_bytes(data[at:at + 4], "little")
+
+
+def attributes_of(mask: int) -> List[int]:
+    """The attributes in a mask, rising."""
+    return [a for a in range(ATTRIBUTE_NUMBERS) if mask >> a & 1]
+
+
+def read(data: bytes, names: Optional[Names] = None) -> File:
+    """The file in these bytes, whatever they are. The names are used in the words of its fault."""
+    names = names or Names()
+    file = File(data)
+    file.fault = read_tables(file, names) or read_plan_record(file)
+    if file.fault is None:
+        file.fault = plans.check(file.code, file.tables, names)
+        if file.fault is None or file.fault.number == LAST_OF_PLANS:
+            file.plan = plans.from_bytes(file.code)
+    return file
+
+
+def read_tables(file: File, names: Names) -> Optional[Refused]:
+    """Reads the tables before the plan record. The refusal from 1 to 5 that is due, or None."""
+    at = 0
+    while True:
+        left, mark = len(file.data) - at, file.data[at:at + 2]
+        if left < 2:
+            return Refused(1, at, "the file ends before a plan" if left == 0 else "the last byte is half a mark")
+        if mark == PLAN_MARK:
+            return None
+        if mark != TABLE_MARK:
+            return Refused(2, at, "at offset %d stands %02x %02x, neither 54 42 (a table) nor 50 4c (the plan)" % (at, *mark))
+        if len(file.tables) == MOST_TABLES:
+            return Refused(5, at, "a file has at most %d tables" % MOST_TABLES, MOST_TABLES)
+        fault = read_table(file, at, names)
+        if fault:
+            return fault
+        at = file.tables[-1].end()
+
+
+def read_table(file: File, at: int, names: Names) -> Optional[Refused]:
+    """Reads the table at an offset. The refusal among 1, 3 and 4 that is due, or None."""
+    number, left = len(file.tables), len(file.data) - at
+    name = names.table(number)
+    if left < HEAD:
+        return Refused(1, at, "mark, mask and row count of %s take %d bytes, %d are there" % (name, HEAD, left))
+    attributes, rows = attributes_of(number_at(file.data, at + 2)), number_at(file.data, at + 6)
+    if not 1 <= len(attributes) <= MOST_ATTRIBUTES:
+        return Refused(3, at, "%s has %s" % (name, count(len(attributes), "attribute")), number)
+    if rows > MOST_ROWS:
+        return Refused(4, at, "%s has %s" % (name, count(rows, "row")), number)
+    table = Table(at, attributes, rows)
+    if table.end() > len(file.data):
+        return Refused(1, at, "the columns of %s end at offset %d, the file at %d" % (name, table.end(), len(file.data)))
+    file.tables.append(table)
+    return None
+
+
+def read_plan_record(file: File) -> Optional[Refused]:
+    """Reads the plan record behind the tables. The refusal among 1 and 6 that is due, or None."""
+    data, at = file.data, file.tables[-1].end() if file.tables else 0
+    left = len(data) - at
+    if left < PLAN_HEAD:
+        return Refused(1, at, "the plan is cut: its length is missing")
+    length = data[at + 2]
+    if left < PLAN_HEAD + length:
+        return Refused(1, at, "the plan is cut: it says %s, %d are there" % (count(length, "byte"), left - PLAN_HEAD))
+    end = at + PLAN_HEAD + length
+    file.plan_at, file.code = at, data[at + PLAN_HEAD:end]
+    if end < len(data):
+        return Refused(6, end, "%s behind it" % count(len(data) - end, "byte"))
+    return None
+
+
+def offset_of(file: File, number: int, detail: int) -> Optional[int]:
+    """The offset of the byte that an answer's detail points at, or None if it points at none."""
+    if 1 <= number <= LAST_OF_RECORDS:
+        return detail
+    if LAST_OF_RECORDS < number <= LAST_OF_PLANS and file.plan_at is not None:
+        return file.plan_at + PLAN_HEAD + detail
+    return None
+
+
+# ---- writing
+def table_record(columns: Sequence[Tuple[int, bytes]], rows: int) -> bytes:
+    """The bytes of a table. Columns are words, each with its attribute, attributes rising."""
+    mask = sum(1 << attribute for attribute, _ in columns)
+    return TABLE_MARK + struct.pack("<II", mask, rows) + b"".join(words for _, words in columns)
+
+
+def plan_record(code: bytes) -> bytes:
+    """The bytes of a plan record."""
+    return PLAN_MARK + bytes([len(code)]) + code

@@ -1,0 +1,92 @@
+"""Joins of tables and of files."""
+import os
+import warnings
+from typing import Any, Dict, Optional, Tuple
+
+from . import names as filenames
+from . import plans
+from .answers import LAST_OF_PLANS, Refused
+from .fileformat import File, plan_record, read
+from .library import Answer, bytes_of, call_with_enough
+from .limits import MOST_OUTPUT
+from .messages import InputError, count
+from .names import Names
+from .results import Key, Result
+from .tables import records_of
+
+
+def join(tables: Any, plan: Any = None) -> Result:
+    """Joins tables by a plan: a Result, or Refused.
+
+    tables: a list of tables, or a mapping of table names to tables. A table is a mapping of attributes to columns, a pandas
+    DataFrame, a NumPy structured array, or a Result. An attribute is a name or a number from 0 to 31, in all tables alike.
+    plan: a table's name or number, or a pair of plans, such as ("frames", ("exposures", "readings")); or a text, such as
+    "(frames (exposures readings))"; or the plan's bytes, as a file has them. It may be left out where there is one table.
+    """
+    data, names, keys = packed(tables, plan)
+    return join_bytes(data, names, keys)
+
+
+def make_file(tables: Any, plan: Any = None) -> bytes:
+    """The file of these tables and this plan, as bytes. It may still be one that the library refuses."""
+    return packed(tables, plan)[0]
+
+
+def join_file(file: Any) -> Result:
+    """Joins a file: a Result, or Refused. `file` is its path, or its bytes.
+
+    Columns are called by attribute number; with names beside the path (PATH.names, of this very file), by name."""
+    if not isinstance(file, (str, os.PathLike)):
+        return join_bytes(bytes_of(file), Names())
+    path = os.fsdecode(file)
+    with open(path, "rb") as stream:
+        data = stream.read()
+    names = filenames.beside(path, data, lambda text: warnings.warn(text, stacklevel=3))
+    if not names.attributes:
+        return join_bytes(data, names)
+    return join_bytes(data, names, {a: names.attribute(a) for a in plans.width(read(data).tables)})
+
+
+def packed(tables: Any, plan: Any) -> Tuple[bytes, Names, Dict[int, Key]]:
+    """The file of these tables and this plan, its names, and its attributes by number."""
+    records, names, keys = records_of(tables)
+    if plan is None:
+        if len(names.tables) != 1:
+            raise InputError("a plan is wanted, such as (0, 1) or '(a b)': there are %s" % count(len(names.tables), "table"))
+        plan = 0
+    code = plans.code_of(plan, [names.tables[number] for number in range(len(names.tables))])
+    return records + plan_record(code), names, keys
+
+
+def join_bytes(data: bytes, names: Names, keys: Optional[Dict[int, Key]] = None) -> Result:
+    """Joins a file's bytes: a Result, or Refused in these names. Without `keys` columns are called by number."""
+    answer, output = call_with_enough(data)
+    file = read(data, names)
+    if answer.number:
+        raise refusal(answer, file, names)
+    attributes = plans.width(file.tables)
+    end = answer.rows * len(attributes)
+    columns = {keys[a] if keys else a: output[place:end:len(attributes)] for place, a in enumerate(attributes)}
+    return Result(columns, answer.rows, answer.entries, answer.lookups, answer.comparisons, answer.visits)
+
+
+def refusal(answer: Answer, file: File, names: Names) -> Refused:
+    """The library's refusal of a file, in these names."""
+    number, detail = answer.number, answer.detail
+    if number <= LAST_OF_PLANS:
+        fault = file.fault
+        return fault if fault and (fault.number, fault.detail) == (number, detail) else Refused(number, detail)
+    if number == 11:
+        return Refused(number, detail, too_many(detail, file, names))
+    return Refused(number, detail)
+
+
+def too_many(results: int, file: File, names: Names) -> str:
+    """How many results there are and how many fit; and which joins match every pair, as these make many."""
+    values = len(plans.width(file.tables))
+    why = "there are {}{:,} results of {}, and the longest output ({:,} words) fits {:,}".format(
+        "at least " if results == 4294967295 else "", results, count(values, "value"), MOST_OUTPUT, MOST_OUTPUT // values)
+    for join in plans.joins_of(file.plan) if file.plan else []:
+        if not plans.key(join, file.tables):
+            why += "; the join of %s is on no attribute, so that every pair matches" % plans.sides_of(join, names)
+    return why

@@ -1,0 +1,10 @@
+"""The limits that document 01 sets."""
+
+MOST_TABLES = 16
+MOST_ATTRIBUTES = 8  # of one table
+ATTRIBUTE_NUMBERS = 32  # attributes are numbered from 0 to 31
+MOST_ROWS = 4096  # of one table
+MOST_PLAN_BYTES = 255
+MOST_OUTPUT = 1048576  # words of output that the library uses at most
+PROGRAM_BYTES = 65536  # the longest file that the program target/bin/pigrozd takes
+PROGRAM_WORDS = 16384  # what that program lends, of scratch and of output

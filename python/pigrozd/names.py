@@ -1,0 +1,154 @@
+"""The names of attributes and tables, and FILE.names, a text file beside FILE that keeps them:
+
+    sha256 6b3c..       the file that these names belong to has this digest
+    0 frame             attribute 0 is called frame
+    table 0 frames      table 0 is called frames
+    text 1 7 dark       value 7 of attribute 1 stands for the text dark
+
+A name goes on to the end of its line. Lines that begin with # and empty lines say nothing. Without a digest the names are
+taken as they are: so they can be written by hand. With one that is not the file's, all of them are left out.
+"""
+import hashlib
+import os
+import re
+from typing import Callable, Dict, Iterable, Optional, Set, Tuple
+
+from .limits import ATTRIBUTE_NUMBERS, MOST_TABLES
+from .values import LARGEST
+from .messages import InputError
+
+ENDING = ".names"
+LINE = re.compile(r"(?:(?P<table>table) |text (?P<text>[0-9]{1,2}) )?(?P<number>[0-9]{1,10}) (?P<name>.*)")
+DIGEST_LINE = re.compile(r"^sha256 ([0-9a-f]{64})\r?$", re.MULTILINE)
+
+
+class Names:
+    """The names of a file: of attributes and of tables by number, and the texts that values stand for, by attribute."""
+
+    def __init__(self) -> None:
+        self.attributes: Dict[int, str] = {}
+        self.tables: Dict[int, str] = {}
+        self.texts: Dict[int, Dict[int, str]] = {}
+
+    def attribute(self, number: int) -> str:
+        """The attribute's name; a0, a1 and so on without one."""
+        return self.attributes.get(number) or unused("a%d" % number, self.attributes.values())
+
+    def table(self, number: int) -> str:
+        """The table's name; table0, table1 and so on without one."""
+        return self.tables.get(number) or unused("table%d" % number, self.tables.values())
+
+    def list(self, attributes: Iterable[int]) -> str:
+        """The names of these attributes in one text."""
+        return ", ".join(map(self.attribute, attributes))
+
+
+def unused(name: str, taken: Iterable[str]) -> str:
+    """The name, lengthened until nothing else is called so."""
+    while name in taken:
+        name += "_"
+    return name
+
+
+def fault_of_attribute_name(name: str) -> Optional[str]:
+    """What is wrong with a name for an attribute, or None."""
+    if not name:
+        return "an attribute without a name"
+    if re.search(r"[\r\n\0\ud800-\udfff]", name):
+        return "a line break, a zero or a letter that is not UTF-8 in the name of an attribute"
+    return None
+
+
+def fault_of_table_name(name: str) -> Optional[str]:
+    """What is wrong with a name for a table, or None. It is also the name of a file in a folder."""
+    if not name or name in (".", "..") or re.search(r'[/\\"\0\r\n\ud800-\udfff]', name):
+        return "%r cannot be the name of a table" % name
+    return None
+
+
+# ---- FILE.names
+def digest(data: bytes) -> str:
+    """The SHA-256 digest of a file's bytes, in hexadecimal."""
+    return hashlib.sha256(data).hexdigest()
+
+
+def digest_in(text: str) -> Optional[str]:
+    """The digest in a file of names, or None."""
+    found = DIGEST_LINE.search(text)
+    return found[1] if found else None
+
+
+def to_text(names: Names, data: bytes) -> str:
+    """The file of names of the file with these bytes."""
+    lines = ["sha256 " + digest(data)]
+    lines += ["%d %s" % item for item in sorted(names.attributes.items())]
+    lines += ["table %d %s" % item for item in sorted(names.tables.items())]
+    lines += ["text %d %d %s" % (a, v, text) for a in sorted(names.texts) for v, text in sorted(names.texts[a].items())]
+    return "".join(line + "\n" for line in lines)
+
+
+def from_text(text: str, path: str) -> Names:
+    """The names in a file of names."""
+    names = Names()
+    seen: Set[Tuple[int, str]] = set()
+    for at, line in enumerate(text.split("\n"), 1):
+        line = line.rstrip("\r")
+        if not line.strip() or line.startswith("#") or DIGEST_LINE.fullmatch(line):
+            continue
+        try:
+            read_line(line, names, seen)
+        except InputError as error:
+            raise InputError("%s, line %d: %s" % (path, at, error)) from None
+    return names
+
+
+def read_line(line: str, names: Names, seen: Set[Tuple[int, str]]) -> None:
+    """Takes one line into the names. `seen` has the names before it, each with the dictionary that it is in."""
+    found = LINE.fullmatch(line)
+    if not found:
+        raise InputError("expected NUMBER NAME, table NUMBER NAME or text ATTRIBUTE VALUE TEXT, found %r" % line[:80])
+    number, name, fault = int(found["number"]), found["name"], None
+    if found["text"]:
+        known, most = names.texts.setdefault(int(found["text"]), {}), LARGEST
+    elif found["table"]:
+        known, most, fault = names.tables, MOST_TABLES - 1, fault_of_table_name(name)
+    else:
+        name = name.strip()
+        known, most, fault = names.attributes, ATTRIBUTE_NUMBERS - 1, fault_of_attribute_name(name)
+    if fault:
+        raise InputError(fault)
+    if number > most or int(found["text"] or 0) >= ATTRIBUTE_NUMBERS:
+        raise InputError("the number is too high")
+    if number in known:
+        raise InputError("%d has a name already" % number)
+    if (id(known), name) in seen:
+        raise InputError("%r is named already" % name)
+    known[number] = name
+    seen.add((id(known), name))
+
+
+def load_text(path: str) -> Optional[str]:
+    """What is in FILE.names for the file at this path, or None if there is no such file."""
+    beside = path + ENDING
+    if not os.path.isfile(beside):
+        return None
+    with open(beside, "rb") as stream:
+        data = stream.read()
+    try:
+        return data.decode("utf-8-sig")
+    except UnicodeDecodeError:
+        raise InputError("%s: not UTF-8 text" % beside) from None
+
+
+def beside(path: str, data: bytes, warn: Callable[[str], None]) -> Names:
+    """The names in FILE.names for the file at this path with these bytes; none if there is no such file.
+
+    Names that belong to another file are left out, and `warn` is told so."""
+    text = load_text(path)
+    if text is None:
+        return Names()
+    if digest_in(text) not in (None, digest(data)):
+        warn("%s%s belongs to another file than %s: its digest differs, and its names are left out" % (
+            path, ENDING, path))
+        return Names()
+    return from_text(text, path + ENDING)
