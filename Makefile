@@ -41,7 +41,7 @@ $(LIB)/libpigrozd.so: $(LIB)/libpigrozd.a include/pigrozd.h
 $(LIB)/$(SONAME): $(LIB)/libpigrozd.so
 	ln -sf libpigrozd.so $@
 
-check-users: check-c check-python check-tools
+check-users: check-c check-python check-commands
 
 # The header as C and as C++, the examples with either library against their expected output, and an installation.
 check-c: lib target/bin/pigrozd
@@ -61,15 +61,17 @@ check-c: lib target/bin/pigrozd
 	MAKE='$(MAKE)' CC='$(CC)' sh tests/test_install.sh
 	sh tests/test_pages.sh
 
+# The Python package: the library through it, tables and values, the file format, pip. Then its commands. What NumPy and pandas
+# are needed for is skipped, in words, where they are not there: make check-users PYTHON=/usr/bin/python3 names another Python.
+PYTHON = python3
+
 check-python: lib
-	python3 -m unittest tests/test_pigrozd.py
+	$(PYTHON) tests/run.py test_library test_python test_formats test_install
 
+check-commands: lib
+	$(PYTHON) tests/run.py test_commands test_join test_damaged
 
-# The tools for tables and plans: Python alone.
-check-tools:
-	python3 -m unittest tests/test_tools.py
-
-.PHONY: lib check-users check-c check-python check-tools
+.PHONY: lib check-users check-c check-python check-commands
 
 # make bench measures the join beside an unproved twin, a HashMap join and SQLite (docs/PERFORMANCE.md); make check-bench says only
 # whether they agree. Both need cargo and Debian's sqlite3, the instructions valgrind too.

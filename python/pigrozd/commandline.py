@@ -4,13 +4,13 @@
 written. 130: interrupted.
 """
 import argparse
-import sys
+import functools
 from typing import Any, List, Optional, Sequence
 
 from . import __version__, commands
 from .answers import Refused
 from .messages import InputError
-from .streams import PROGRAM, drop, tell
+from .streams import PROGRAM, tell, write_out
 
 REFUSED, UNUSABLE, INTERRUPTED = 1, 2, 130
 
@@ -20,37 +20,22 @@ tables and a plan in one file, as document 01 says. `pigrozd COMMAND --help` say
 
 def main(arguments: Optional[Sequence[str]] = None) -> int:
     """Runs a command; its exit status. Whatever a user can do ends with one, and with a message if it is not 0."""
-    for stream in (sys.stdout, sys.stderr):
-        if hasattr(stream, "reconfigure"):  # whatever the locale: CSV files and names are UTF-8
-            stream.reconfigure(encoding="utf-8", errors="surrogateescape")
     try:
         return run(arguments)
     except SystemExit as end:  # of argparse: help, version, or wrong usage that was told
-        return flushed(end.code if isinstance(end.code, int) else UNUSABLE)
+        return end.code if isinstance(end.code, int) else UNUSABLE
     except Refused as refused:
         tell(str(refused))
         return REFUSED
     except InputError as error:
         tell(str(error))
-    except BrokenPipeError:  # the reader wants no more; it need not be told
-        drop(sys.stdout)
+    except BrokenPipeError:  # the reader wants no more, and need not be told
+        pass
     except OSError as error:
         tell("%s: %s" % (error.filename, error.strerror) if error.filename and error.strerror else str(error))
     except KeyboardInterrupt:
         return INTERRUPTED
     return UNUSABLE
-
-
-def flushed(status: int) -> int:
-    """The status, if what argparse printed could be written."""
-    try:
-        if sys.stdout is not None:
-            sys.stdout.flush()
-        return status
-    except OSError as error:
-        drop(sys.stdout)
-        tell("standard output: %s" % error.strerror)
-        return UNUSABLE
 
 
 def run(arguments: Optional[Sequence[str]]) -> int:
@@ -71,10 +56,27 @@ def take_files(parser: argparse.ArgumentParser, found: argparse.Namespace, unrea
 
 
 # ---- arguments
+class Parser(argparse.ArgumentParser):
+    """argparse's parser, which writes its help as the commands write: an error of the stream is one."""
+
+    def print_help(self, file: Any = None) -> None:
+        """Writes the help to standard output."""
+        write_out(self.format_help())
+
+
+class ShowVersion(argparse.Action):
+    """Writes the version and ends."""
+
+    def __call__(self, parser: argparse.ArgumentParser, *_: Any) -> None:
+        write_out("%s %s\n" % (PROGRAM, __version__))
+        parser.exit()
+
+
+@functools.lru_cache(maxsize=None)
 def parser_of_all() -> argparse.ArgumentParser:
     """The parser of all commands."""
-    parser = argparse.ArgumentParser(prog=PROGRAM, description=ABOUT)
-    parser.add_argument("--version", action="version", version="%s %s" % (PROGRAM, __version__))
+    parser = Parser(prog=PROGRAM, description=ABOUT)
+    parser.add_argument("--version", action=ShowVersion, nargs=0, help="show the version and end")
     subparsers = parser.add_subparsers(title="commands", metavar="COMMAND", dest="command", required=True)
     for add in (add_join, add_pack, add_unpack, add_rows, add_dump, add_plan):
         add(subparsers)

@@ -97,9 +97,11 @@ def read_row(sheet: Sheet, line: int, cells: List[str]) -> None:
 def name_list(text: str, option: str) -> List[str]:
     """The names in an option's text, separated by commas as in a line of a CSV file."""
     try:
+        if re.search(r"[\r\n]", text):
+            raise csv.Error("a line break among names")
         return [name.strip() for line in csv.reader([text], strict=True) for name in line]
     except csv.Error as error:
-        raise InputError("%s %s: %s" % (option, text, error)) from None
+        raise InputError("%s %r: %s" % (option, text, error)) from None
 
 
 def given_numbers(text: str) -> Dict[int, str]:

@@ -2,6 +2,7 @@
 from typing import List, Sequence
 
 from . import plans
+from .answers import MEANINGS
 from .messages import count
 from .names import Names
 from .results import Result
@@ -45,8 +46,8 @@ class Drawing:
         """Whether the plan is well-behaved, what scratch its join needs, what a result is."""
         broken = self.broken()
         if broken:
-            return ["answer 9, detail %d: the plan is not well-behaved at %s" % (
-                broken[0].index, count(len(broken), "join"))]
+            return ["answer 9, detail %d: %s at %s" % (
+                broken[0].index, MEANINGS[9].means, count(len(broken), "join"))]
         lines = ["the plan is well-behaved"]
         if all(t.rows is not None for t in self.tables):
             lines.append("scratch needed: " + count(plans.words_needed(self.plan, self.tables), "word"))

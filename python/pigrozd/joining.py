@@ -41,7 +41,7 @@ def join_file(file: Any) -> Result:
     path = os.fsdecode(file)
     with open(path, "rb") as stream:
         data = stream.read()
-    names = filenames.beside(path, data, lambda text: warnings.warn(text, stacklevel=3))
+    names = filenames.beside(path, data, lambda text: warnings.warn(text, stacklevel=4))
     if not names.attributes:
         return join_bytes(data, names)
     return join_bytes(data, names, {a: names.attribute(a) for a in plans.width(read(data).tables)})

@@ -1,6 +1,8 @@
 """Standard input, output and error of a command, also where they are closed, full or no longer read."""
+import errno
 import os
 import sys
+from typing import BinaryIO
 
 from .messages import InputError
 
@@ -18,18 +20,32 @@ def tell(text: str, prefix: str = PROGRAM + ": ") -> None:
 
 
 def write_out(text: str) -> None:
-    """Writes to standard output. OSError names it if it is full."""
+    """Writes a text to standard output, in UTF-8 whatever the locale, and in full. OSError names it if it is full."""
     if sys.stdout is None:
         raise InputError("standard output is closed")
     try:
-        sys.stdout.write(text)
-        sys.stdout.flush()
+        if hasattr(sys.stdout, "buffer"):
+            sys.stdout.flush()
+            write_all(sys.stdout.buffer, text.encode("utf-8", "surrogateescape"))
+        else:
+            sys.stdout.write(text)
     except BrokenPipeError:
         drop(sys.stdout)
         raise
     except OSError as error:
         drop(sys.stdout)
         raise OSError(error.errno, error.strerror, "standard output") from None
+
+
+def write_all(stream: BinaryIO, data: bytes) -> None:
+    """Writes all bytes. A stream without a buffer (PYTHONUNBUFFERED) may take a part of them at a time."""
+    rest = memoryview(data)
+    while rest:
+        taken = stream.write(rest)
+        if taken is None:
+            raise BlockingIOError(errno.EAGAIN, os.strerror(errno.EAGAIN))
+        rest = rest[taken:]
+    stream.flush()
 
 
 def standard_input() -> bytes:

@@ -48,7 +48,7 @@ def whole_number(value: Any) -> int:
             number = operator.index(value)
         except TypeError:
             raise TypeError("%.60r (%s) is not a whole number" % (value, type(value).__name__)) from None
-        if isinstance(value, bool):
+        if isinstance(value, bool) or getattr(getattr(value, "dtype", None), "kind", "") == "b":
             raise TypeError("%s is a truth value, not a number" % value)
     if not 0 <= number <= LARGEST:
         raise ValueError("%s is not in %s" % (number if number.bit_length() <= 128 else "a longer number", RANGE))

@@ -1,0 +1,152 @@
+"""Tests of the shared library, called through the Python package."""
+import array
+import collections
+import ctypes
+import os
+import random
+import re
+import subprocess
+import sys
+import unittest
+
+from support import SAMPLE, TOP, load, path
+
+import pigrozd
+import reference
+from pigrozd import fileformat, library, plans
+
+BEFORE = 2779096485  # what tests/make_samples.py has both buffers filled with
+VALUES = (10, 1, 7, 29510, 10, 1, 7, 29510, 11, 2, 9, 29530, 12, 2, 9, 29530)  # of the sample's result
+
+
+def words(*values):
+    return array.array("I", values)
+
+
+class Calls(unittest.TestCase):
+    def printed(self, file, scratch_words, output_words):
+        """What the test program crates/samples prints of one call."""
+        scratch, output = words(BEFORE) * scratch_words, words(BEFORE) * output_words
+        answer = pigrozd.call(file, scratch, output)
+        width = len(plans.width(fileformat.read(bytes(file)).tables))
+        rows = [output[width * i:width * i + width] for i in range(answer.rows)]
+        text = reference.lines((answer.number, answer.detail, rows, answer[3:]))
+        if answer.number:
+            self.assertEqual(answer[2:], (0, 0, 0, 0, 0))
+        if not scratch:
+            text += "scratch empty, "
+        elif not any(scratch):
+            text += "scratch zero, "
+        else:
+            self.assertEqual(scratch, words(BEFORE) * scratch_words)
+            text += "scratch unchanged, "
+        end = width * answer.rows
+        self.assertEqual(output[end:], words(BEFORE) * (output_words - end))
+        return text + "output %d words written, rest unchanged\n" % end
+
+    def test_samples(self):
+        """The 192 samples of the gate, P1 to P12 among them, called through the shared library."""
+        names = load("crates", "samples", "args").decode().split()
+        text = []
+        for name in names:
+            sample = load("crates", "samples", "data", name)
+            lent = [int.from_bytes(sample[i:i + 4], "little") for i in (0, 4)]
+            text.append(name + "\n" + self.printed(sample[8:], *lent))
+        self.assertGreater(len(names), 100)
+        self.assertEqual("".join(text).splitlines(), load("crates", "samples", "stdout").decode().splitlines())
+
+    def test_random_files(self):
+        """Small files, whole and damaged, against the independent join."""
+        chance, numbers = random.Random(7), collections.Counter()
+        for _ in range(400):
+            file = bytearray(pigrozd.make_file(*drawn_tables(chance)))
+            if chance.random() < 0.3:
+                file[chance.randrange(len(file))] = chance.choice((0, 1, 2, 255))
+            scratch, output = chance.choice((1000, 40)), chance.choice((300, 12))
+            number, detail, rows, counts = reference.outcome(bytes(file), scratch, output)
+            expected = reference.lines((number, detail, rows, counts))
+            with self.subTest(file=bytes(file).hex()):
+                self.assertEqual(self.printed(file, scratch, output).split("scratch")[0], expected)
+                fault = fileformat.read(bytes(file)).fault
+                self.assertEqual((fault.number, fault.detail) if fault else (0, 0), (number, detail) if number <= 9 else (0, 0))
+            numbers[number] += 1
+        self.assertGreater(numbers[0], 50)
+        self.assertGreater(len(numbers), 6)
+
+    def test_buffers(self):
+        good = words(*range(100))
+        with self.assertRaises(TypeError):
+            pigrozd.call(SAMPLE, bytearray(400), good)
+        with self.assertRaises(TypeError):
+            pigrozd.call(SAMPLE, memoryview(bytes(400)).cast("I"), good)
+        with self.assertRaises(TypeError):
+            pigrozd.call(SAMPLE, memoryview(good)[::2], words(0))
+        with self.assertRaises(ValueError):
+            pigrozd.call(SAMPLE, good, good)
+        with self.assertRaises(ValueError):
+            pigrozd.call(SAMPLE, memoryview(good)[:60], memoryview(good)[59:])
+        with self.assertRaises(ValueError):
+            pigrozd.call(SAMPLE, memoryview(bytearray(401))[1:].cast("I"), words(0))
+        self.assertEqual(good, words(*range(100)))
+        self.assertEqual(pigrozd.call(SAMPLE, memoryview(good)[:60], memoryview(good)[60:]).number, 10)
+
+    def test_files_that_are_no_bytes(self):
+        for file in (5, None, "crates/pigrozd/stdin", [84, 66]):
+            with self.subTest(file=file), self.assertRaisesRegex(TypeError, "the bytes of a file are wanted, not a "):
+                pigrozd.call(file, words(), words())
+
+    def test_two_halves_of_one_buffer(self):
+        both = words(BEFORE) * 112
+        answer = pigrozd.call(SAMPLE, memoryview(both)[:96], memoryview(both)[96:])
+        self.assertEqual((answer, both), ((0, 0, 4, 6, 8, 19, 10), words(0) * 96 + words(*VALUES)))
+        both = words(BEFORE) * 112
+        answer = pigrozd.call(SAMPLE, memoryview(both)[16:], memoryview(both)[:16])
+        self.assertEqual((answer, both), ((0, 0, 4, 6, 8, 19, 10), words(*VALUES) + words(0) * 96))
+
+    def test_no_word_lent_is_no_null_pointer(self):
+        lent, count = library.lent(words())
+        self.assertEqual(count, 0)
+        self.assertNotEqual(ctypes.addressof(lent), 0)
+
+
+def drawn_tables(chance):
+    """A few small tables and a plan that names each once."""
+    tables = []
+    for _ in range(chance.randint(1, 4)):
+        rows = chance.randint(0, 4)
+        attributes = chance.sample(range(4), chance.randint(1, 3))
+        tables.append({a: [chance.randint(0, 2) for _ in range(rows)] for a in attributes})
+    drawn = list(range(len(tables)))
+    chance.shuffle(drawn)
+    while len(drawn) > 1:
+        i = chance.randrange(len(drawn) - 1)
+        drawn[i:i + 2] = [(drawn[i], drawn[i + 1])]
+    return tables, drawn[0]
+
+
+class Loading(unittest.TestCase):
+    def test_header(self):
+        """The seven numbers in the header's order."""
+        header = load("include", "pigrozd.h").decode()
+        fields = re.findall(r"^    uint64_t (\w+);", header, re.M)
+        self.assertEqual(tuple(fields), pigrozd.Answer._fields)
+        self.assertEqual(ctypes.sizeof(library.AnswerStruct), 56)
+
+    def told(self, named):
+        """What is told where PIGROZD_LIBRARY names this file."""
+        code = "import pigrozd\ntry:\n    pigrozd.join([{0: [1]}], 0)\nexcept pigrozd.LibraryError as error:\n    print(error)"
+        environment = dict(os.environ, PYTHONPATH=os.path.join(TOP, "python"), PIGROZD_LIBRARY=named)
+        return subprocess.run([sys.executable, "-c", code], env=environment, stdout=subprocess.PIPE, check=True).stdout.decode()
+
+    def test_missing_library(self):
+        self.assertRegex(self.told("./no-such-library.so"), "make lib builds it, PIGROZD_LIBRARY may name it.*no-such-library")
+
+    def test_a_file_that_is_no_library(self):
+        self.assertRegex(self.told(path("Makefile")), "cannot be loaded.*Makefile")
+
+    def test_foreign_library(self):
+        self.assertRegex(self.told("libc.so.6"), "libc.so.6 is not Pigrozd's library: it has no function pigrozd_join")
+
+
+if __name__ == "__main__":
+    unittest.main()
