@@ -413,7 +413,7 @@ class RowsOfPrints(Folder):
         self.assertEqual(self.command("rows", self.at("out"), stdin=b"rows 0\nsteps 0 0 0 0\n")[0], ROWS[:35])
 
     def test_refused(self):
-        self.fails(r"refused 9 0: the plan is not well-behaved: so standard input says; pigrozd dump .*out --answer 9 0 shows",
+        self.fails(r"standard input: refused 9 0: the plan is not well-behaved: .*; pigrozd dump .*out --answer 9 0 shows",
                    "rows", self.at("out"), stdin=b"refused 9 0\n", status=1)
 
     def test_other_text(self):

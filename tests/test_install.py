@@ -1,5 +1,6 @@
 """Tests of the package as it is installed: pip, python3 -m pigrozd, the script, types."""
 import ast
+import importlib.metadata
 import importlib.util
 import os
 import shutil
@@ -12,6 +13,8 @@ from support import CSVS, ROWS, SAMPLE_PLAN, Folder, load, path
 import pigrozd
 
 MISSING = [name for name in ("pip", "setuptools") if importlib.util.find_spec(name) is None]
+if not MISSING and int(importlib.metadata.version("setuptools").split(".")[0]) < 61:
+    MISSING = ["setuptools 61 or later"]
 
 
 class Installed(Folder):

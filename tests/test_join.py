@@ -45,7 +45,7 @@ class Joining(Folder):
                         self.assertEqual([list(map(int, line.split(","))) for line in out.splitlines()[1:]], rows)
                         done += 1
                     elif number not in (10, 11):
-                        self.assertEqual((status, out), (2 if number <= 2 and detail == 0 else 1, ""))
+                        self.assertEqual((status, out), (1, ""))
                         self.assertIn("refused %d %d: " % (number, detail), err)
         self.assertGreater(done, 60)
 
@@ -83,7 +83,10 @@ class Joining(Folder):
                    "fits 524,288; the join of a with b is on no attribute", "join", a, b, "--plan", "(a b)", status=1)
         self.fails("b.csv, line 4098: a table has at most 4,096 rows", "join", a, self.write("b.csv", "y\n" + "1\n" * 4097),
                    "--plan", "(a b)")
-        self.fails("refused 2 0: .*; a CSV file's name ends in .csv", "join", self.write("table.txt", "x\n1\n"))
+        self.fails("table.txt: refused 2 0: .*; a CSV file's name ends in .csv", "join", self.write("table.txt", "x\n1\n"), status=1)
+        bad = self.write("bad", samples()["p3_left_plan_joined_first"])
+        self.fails("bad: refused 9 0: .*; pigrozd dump .*bad shows it", "join", bad, status=1)
+        self.fails("bad: refused 8 1: .*; pigrozd plan .*bad --plan 0 shows it", "join", bad, "--plan", "0", status=1)
         self.fails("a packed file, not CSV; a packed file is joined alone", "join", a, self.write("p", SAMPLE), "--plan", "(a p)")
 
     def test_explain(self):

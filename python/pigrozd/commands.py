@@ -30,6 +30,18 @@ def is_packed(paths: Sequence[str]) -> bool:
     return len(paths) == 1 and not paths[0].lower().endswith(csvfiles.ENDING)
 
 
+def refused_file(path: str, refused: Refused, plan: Optional[str] = None) -> int:
+    """Tells that a packed file is refused, and which command shows where it is at fault; the status."""
+    hint = ""
+    if refused.number <= 2 and refused.detail == 0:
+        hint = "; a CSV file's name ends in .csv"
+    elif refused.number <= LAST_OF_PLANS:
+        shown_by = ["plan", path, "--plan", plan] if plan is not None else ["dump", path]
+        hint = "; pigrozd %s shows it" % " ".join(map(shlex.quote, shown_by))
+    tell("%s: %s%s" % (path, refused, hint))
+    return 1
+
+
 def load_inputs(a: Arguments) -> Tuple[bytes, Names]:
     """The file to join: packed out of CSV files, or given packed, then with another plan if one is given."""
     if not is_packed(a.files):
@@ -37,10 +49,10 @@ def load_inputs(a: Arguments) -> Tuple[bytes, Names]:
     if a.attributes is not None or a.text is not None:
         raise InputError("--attributes and --text go with CSV files, and %s is taken as a packed file" % a.files[0])
     data, names = load_packed(a.files[0])
-    file = fileformat.read(data, names)
-    if file.fault and file.fault.number <= 2 and file.fault.detail == 0:
-        raise InputError("%s: %s; a CSV file's name ends in .csv" % (a.files[0], file.fault))
-    if a.plan is not None and file.plan_at is not None:
+    if a.plan is not None:
+        file = fileformat.read(data, names)
+        if file.fault and file.fault.number <= LAST_OF_RECORDS:
+            raise file.fault
         data = data[:file.plan_at] + fileformat.plan_record(plans.code_of(a.plan, table_names(file, names)))
     return data, names
 
@@ -53,6 +65,16 @@ def table_names(file: fileformat.File, names: Names) -> List[str]:
 # ---- join
 def join(a: Arguments) -> int:
     """Joins CSV files or a packed file, and writes the rows as CSV."""
+    try:
+        return join_and_write(a)
+    except Refused as refused:
+        if not is_packed(a.files):
+            raise
+        return refused_file(a.files[0], refused, a.plan)
+
+
+def join_and_write(a: Arguments) -> int:
+    """Joins what the arguments name, and writes the rows."""
     if a.output is not None:
         files.refuse_target(a.output, a.files + [path + filenames.ENDING for path in a.files])
     data, names = load_inputs(a)
@@ -96,13 +118,15 @@ def pack(a: Arguments) -> int:
 
 def refuse_foreign(out: str) -> None:
     """Refuses to replace what pack did not write: OUT and OUT.names are replaced if the digest in OUT.names is OUT's."""
-    text = filenames.load_text(out) if os.path.exists(out + filenames.ENDING) else None
-    written = os.path.exists(out) and files.load(out)
-    if text is not None and (not written or filenames.digest_in(text) != filenames.digest(written)):
+    named = filenames.load_beside(out)
+    if named is None:
+        if os.path.exists(out) and os.path.getsize(out) > 0:
+            raise InputError("%s is there and was not packed here; it is left as it is (--force replaces it)" % out)
+        return
+    digest = filenames.digest(files.load(out)) if os.path.exists(out) else ""
+    if filenames.digest_in(named.decode("utf-8", "replace")) != digest:
         raise InputError("%s%s is there and was not packed with %s; it is left as it is (--force replaces it)" % (
             out, filenames.ENDING, out))
-    if text is None and written:
-        raise InputError("%s is there and was not packed here; it is left as it is (--force replaces it)" % out)
 
 
 def program_refuses(file: fileformat.File) -> Optional[str]:
@@ -123,7 +147,7 @@ def unpack(a: Arguments) -> int:
     data, names = load_packed(a.file)
     file = fileformat.read(data, names)
     if file.fault and file.fault.number < LAST_OF_RECORDS:
-        raise file.fault
+        return refused_file(a.file, file.fault)
     paths = [os.path.join(a.dir, name + csvfiles.ENDING) for name in table_names(file, names)]
     texts = [csvfiles.table_text(file, table, names) for table in file.tables]
     for path in paths:
@@ -157,7 +181,12 @@ def rows(a: Arguments) -> int:
     data, names = load_packed(a.file)
     file = fileformat.read(data, names)
     where = a.print or "standard input"
-    found = printed_rows(files.load(a.print) if a.print else standard_input(), where, a.file)
+    try:
+        found = printed_rows(files.load(a.print) if a.print else standard_input(), where)
+    except Refused as refused:
+        answer = "%d %d" % (refused.number, refused.detail)
+        tell("%s: %s; pigrozd dump %s --answer %s shows the place" % (where, refused, shlex.quote(a.file), answer))
+        return 1
     if file.fault:
         raise InputError("%s: %s; so it is not the file of this print" % (a.file, file.fault))
     attributes = plans.width(file.tables)
@@ -170,13 +199,12 @@ def rows(a: Arguments) -> int:
     return 0
 
 
-def printed_rows(text: bytes, where: str, path: str) -> List[List[int]]:
+def printed_rows(text: bytes, where: str) -> List[List[int]]:
     """The rows in what the program printed."""
     lines = text.decode("ascii", "replace").splitlines() or [""]
     refused = re.fullmatch("refused ([0-9]{1,2}) ([0-9]{1,20})", lines[0])
     if refused and 0 < int(refused[1]) < len(MEANINGS):
-        raise Refused(int(refused[1]), int(refused[2]), "so %s says; pigrozd dump %s --answer %s %s shows the place" % (
-            where, shlex.quote(path), refused[1], refused[2]))
+        raise Refused(int(refused[1]), int(refused[2]), "so the program said")
     head = re.fullmatch("rows ([0-9]{1,7})", lines[0])
     if not head:
         raise InputError("%s, line 1: expected rows N or refused NUMBER DETAIL, found %r" % (where, lines[0][:80]))
@@ -202,7 +230,8 @@ def dump(a: Arguments) -> int:
         tell("warning: %s; names are left out" % error)
         data, names = files.load(a.file), Names()
     file = fileformat.read(data, names)
-    write_out("\n".join(dumps.dump(a.file, file, names, a.all, tuple(a.answer) if a.answer else None)) + "\n")
+    answer = (a.answer[0], a.answer[1]) if a.answer else None
+    write_out("\n".join(dumps.dump(a.file, file, names, a.all, answer)) + "\n")
     return 0
 
 
@@ -213,7 +242,12 @@ def plan(a: Arguments) -> int:
         raise InputError("--plan goes with a FILE, --tables with a PLAN")
     if not a.tables and a.what.startswith("("):
         raise InputError("a PLAN needs --tables")
-    drawing = drawing_of_tables(a.what, a.tables) if a.tables else drawing_of_file(a.what, a.plan)
+    try:
+        drawing = drawing_of_tables(a.what, a.tables) if a.tables else drawing_of_file(a.what, a.plan)
+    except Refused as refused:
+        if a.tables:
+            raise
+        return refused_file(a.what, refused, a.plan)
     write_out("\n".join(drawing.dot() if a.dot else drawing.tree()) + "\n")
     return 1 if drawing.broken() else 0
 

@@ -36,7 +36,7 @@ def save(contents: Iterable[Tuple[str, bytes]]) -> None:
         for path, data in contents:
             target = os.path.realpath(path)
             new.append((new_file(target, path), target))
-            write_file(new[-1][0], data, path)
+            write_file(*new[-1], data, path)
         while new:
             os.replace(*new[0])
             del new[0]
@@ -46,13 +46,12 @@ def save(contents: Iterable[Tuple[str, bytes]]) -> None:
 
 
 def new_file(target: str, path: str) -> str:
-    """Makes an empty file in the folder of the target, with the rights of the file that it will replace."""
+    """Makes an empty file in the folder of the target. An error names the path."""
     try:
         descriptor, made = tempfile.mkstemp(prefix=".pigrozd.", dir=os.path.dirname(target))
     except OSError as error:
         raise OSError(error.errno, error.strerror, path) from None
     os.close(descriptor)
-    os.chmod(made, rights(target))
     return made
 
 
@@ -66,9 +65,10 @@ def rights(target: str) -> int:
         return 0o666 & ~mask
 
 
-def write_file(made: str, data: bytes, path: str) -> None:
-    """Writes the new file of a path. An error names the path."""
+def write_file(made: str, target: str, data: bytes, path: str) -> None:
+    """Writes a new file, with the rights of the file that it will replace. An error names the path."""
     try:
+        os.chmod(made, rights(target))
         with open(made, "wb") as stream:
             stream.write(data)
             stream.flush()

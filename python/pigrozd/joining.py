@@ -8,7 +8,7 @@ from . import plans
 from .answers import LAST_OF_PLANS, Refused
 from .fileformat import File, plan_record, read
 from .library import Answer, bytes_of, call_with_enough
-from .limits import MOST_OUTPUT
+from .limits import HIGHEST_COUNT, MOST_OUTPUT
 from .messages import InputError, count
 from .names import Names
 from .results import Key, Result
@@ -85,7 +85,7 @@ def too_many(results: int, file: File, names: Names) -> str:
     """How many results there are and how many fit; and which joins match every pair, as these make many."""
     values = len(plans.width(file.tables))
     why = "there are {}{:,} results of {}, and the longest output ({:,} words) fits {:,}".format(
-        "at least " if results == 4294967295 else "", results, count(values, "value"), MOST_OUTPUT, MOST_OUTPUT // values)
+        "at least " if results == HIGHEST_COUNT else "", results, count(values, "value"), MOST_OUTPUT, MOST_OUTPUT // values)
     for join in plans.joins_of(file.plan) if file.plan else []:
         if not plans.key(join, file.tables):
             why += "; the join of %s is on no attribute, so that every pair matches" % plans.sides_of(join, names)

@@ -127,26 +127,25 @@ def read_line(line: str, names: Names, seen: Set[Tuple[int, str]]) -> None:
     seen.add((id(known), name))
 
 
-def load_text(path: str) -> Optional[str]:
-    """What is in FILE.names for the file at this path, or None if there is no such file."""
-    beside = path + ENDING
-    if not os.path.isfile(beside):
+def load_beside(path: str) -> Optional[bytes]:
+    """The bytes of FILE.names for the file at this path, or None if there is no such file."""
+    if not os.path.isfile(path + ENDING):
         return None
-    with open(beside, "rb") as stream:
-        data = stream.read()
-    try:
-        return data.decode("utf-8-sig")
-    except UnicodeDecodeError:
-        raise InputError("%s: not UTF-8 text" % beside) from None
+    with open(path + ENDING, "rb") as stream:
+        return stream.read()
 
 
 def beside(path: str, data: bytes, warn: Callable[[str], None]) -> Names:
     """The names in FILE.names for the file at this path with these bytes; none if there is no such file.
 
     Names that belong to another file are left out, and `warn` is told so."""
-    text = load_text(path)
-    if text is None:
+    loaded = load_beside(path)
+    if loaded is None:
         return Names()
+    try:
+        text = loaded.decode("utf-8-sig")
+    except UnicodeDecodeError:
+        raise InputError("%s%s: not UTF-8 text" % (path, ENDING)) from None
     if digest_in(text) not in (None, digest(data)):
         warn("%s%s belongs to another file than %s: its digest differs, and its names are left out" % (
             path, ENDING, path))

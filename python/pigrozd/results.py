@@ -57,5 +57,5 @@ class Result:
     def to_pandas(self) -> Any:
         """A pandas DataFrame, one column of 32-bit words for each attribute, called by its name or number."""
         import numpy
-        import pandas
+        import pandas  # type: ignore[import]
         return pandas.DataFrame({name: numpy.array(column, dtype=numpy.uint32) for name, column in self.columns.items()})

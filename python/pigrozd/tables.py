@@ -83,7 +83,7 @@ def keys_of(given: Sequence[Given]) -> Dict[int, Key]:
         raise InputError("attributes have names or numbers, not both: %s has %r and %s has %r" % (where, text, other, number))
     for table in given:
         for key in table.columns:
-            if False in kinds:
+            if not isinstance(key, str):
                 keys[operator.index(key)] = operator.index(key)
             elif key not in keys.values():
                 keys[len(keys)] = key

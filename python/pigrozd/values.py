@@ -97,7 +97,7 @@ def refuse_kind(values: Any, where: str) -> None:
     dimensions = getattr(values, "ndim", 1)
     if dimensions != 1:
         raise ValueError("%s: a column has one dimension, not %s" % (where, dimensions))
-    dtype = getattr(values, "dtype", None)
+    dtype: Any = getattr(values, "dtype", None)
     if getattr(dtype, "kind", "") == "f" and dtype.itemsize != 8:
         raise TypeError("%s: %s does not hold every number from %s; give whole numbers or float64" % (where, dtype, RANGE))
 
