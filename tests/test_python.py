@@ -5,6 +5,7 @@ import copy
 import ctypes
 import datetime
 import decimal
+import doctest
 import os
 import pathlib
 import pickle
@@ -451,6 +452,29 @@ class Pandas(unittest.TestCase):
             pigrozd.join(pandas.DataFrame({"x": [1]}))
         with self.assertRaisesRegex(ValueError, "table 0, attribute 0: a column has one dimension, not 2"):
             pigrozd.join([{0: pandas.DataFrame({"x": [1]})}])
+
+
+class Documents(unittest.TestCase):
+    """The examples of docs/PYTHON.md give what stands below them."""
+
+    def check(self, *parts):
+        """Runs the examples of these parts, one after the other."""
+        test = doctest.DocTestParser().get_doctest("".join(parts), {}, "PYTHON.md", "docs/PYTHON.md", 0)
+        told = []
+        result = doctest.DocTestRunner(verbose=False).run(test, out=told.append)
+        self.assertEqual((result.failed, "".join(told)), (0, ""))
+        self.assertGreater(result.attempted, 8)
+
+    def setUp(self):
+        text = re.sub("^```$", "", load("docs", "PYTHON.md").decode(), flags=re.M)
+        self.plain, self.numpy = text.split("## NumPy and pandas")
+
+    def test_plain(self):
+        self.check(self.plain)
+
+    @needs_pandas
+    def test_numpy_and_pandas(self):
+        self.check(self.plain, self.numpy)
 
 
 if __name__ == "__main__":
