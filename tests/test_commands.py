@@ -524,6 +524,7 @@ class Usage(Folder):
             "required: FILE": ["join"],
             "required: FILE, DIR": ["unpack"],
             "unrecognized arguments: --no-such": ["join", CSVS[0], "--no-such"],
+            "unrecognized arguments: --pl frames": ["join", CSVS[0], "--pl", "frames"],
             "unrecognized arguments: three": ["unpack", "one", "two", "three"],
             "invalid int value: 'x'": ["dump", "a", "--answer", "x", "0"],
         }.items():

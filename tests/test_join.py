@@ -17,7 +17,7 @@ import reference
 class Joining(Folder):
     def test_csv_files(self):
         self.assertEqual(self.command("join", *CSVS, "--plan", SAMPLE_PLAN), (ROWS, ""))
-        self.assertEqual(self.command("join", "--plan", SAMPLE_PLAN, *CSVS)[0], ROWS)
+        self.assertEqual(self.command("join", "--plan", SAMPLE_PLAN, *CSVS, "-o", "-")[0], ROWS)
         self.assertEqual(self.command("join", CSVS[0], "--plan", SAMPLE_PLAN, *CSVS[1:])[0], ROWS)
 
     def test_one_table(self):
@@ -49,6 +49,10 @@ class Joining(Folder):
                         self.assertIn("refused %d %d: " % (number, detail), err)
         self.assertGreater(done, 60)
 
+    def test_endless_inputs(self):
+        self.fails("/dev/zero is longer than 67,108,864 bytes", "join", "/dev/zero")
+        self.fails("/dev/zero, line 1: a line of 1,048,576 letters or more", "join", "/dev/zero", CSVS[0], "--plan", "(zero frames)")
+
     def test_output_file(self):
         out = self.at("joined.csv")
         self.assertEqual(self.command("join", *CSVS, "--plan", SAMPLE_PLAN, "-o", out), ("", ""))
@@ -64,8 +68,11 @@ class Joining(Folder):
         self.fails("out is read here", "join", self.at("out"), "-o", self.at("out"))
         self.fails("out.names is read here", "join", self.at("out"), "-o", self.at("out.names"))
         os.mkfifo(self.at("fifo"))
-        for name in ("fifo", "/dev/null", self.folder):
+        for name in ("fifo", "/dev/null", "/dev/stdout", "/dev/fd/1", "/proc/self/fd/1", self.folder):
             self.fails("is no regular file", "join", frames, "-o", self.at(name))
+        for name in ("", "none/"):
+            self.fails("is not the name of a file", "join", frames, "-o", name)
+        self.fails("'': No such file", "join", "")
         self.fails("none/out.csv: No such file", "join", frames, "-o", self.at("none/out.csv"))
 
     def test_a_refusal_writes_nothing(self):

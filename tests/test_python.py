@@ -355,7 +355,8 @@ class NumPy(unittest.TestCase):
         self.refused(ValueError, ", row 0: NaT stands for a missing value", numpy.array(["NaT"], dtype="datetime64[s]"))
         for kind in ("float16", "float32"):
             self.refused(TypeError, ": %s does not hold every number" % kind, numpy.zeros(1, dtype=kind))
-        for kind in ("bool", "datetime64[s]", "S4", "U4", "complex128"):
+        self.refused(TypeError, ": a column holds whole numbers, not truth values", numpy.zeros(1, dtype="bool"))
+        for kind in ("datetime64[s]", "timedelta64[s]", "S4", "U4", "V4", "complex128", "longdouble"):
             self.refused(TypeError, "", numpy.zeros(1, dtype=kind))
         self.refused(TypeError, ", row 1: ", [1, numpy.bool_(True)])
         self.refused(ValueError, ": a column has one dimension, not 2", numpy.zeros((2, 2), dtype="uint32"))
@@ -365,6 +366,8 @@ class NumPy(unittest.TestCase):
         column = numpy.ma.array([1, 2, 3], mask=[0, 0, 1], dtype="uint32")
         self.refused(ValueError, ", row 2: a masked value, and what is missing cannot be joined", column)
         self.refused(ValueError, ", row 2: -- stands for a missing value", list(column))
+        self.refused(ValueError, ", row 1: -- stands for a missing value", [1, numpy.ma.array(1, mask=True)])
+        self.check([1, numpy.ma.array(1)], [1, 1])
         self.check(numpy.ma.array([1, 2, 3], dtype="uint32"), [1, 2, 3])
         self.check(numpy.ma.array([1, 2, 3], mask=[0, 0, 0]), [1, 2, 3])
         table = numpy.ma.array([(1, 2), (3, 4)], mask=[(0, 0), (0, 1)], dtype=[("a", "u4"), ("b", "u4")])

@@ -32,7 +32,9 @@ def main(arguments: Optional[Sequence[str]] = None) -> int:
     except BrokenPipeError:  # the reader wants no more, and need not be told
         pass
     except OSError as error:
-        tell("%s: %s" % (error.filename, error.strerror) if error.filename and error.strerror else str(error))
+        tell("%s: %s" % (error.filename or "''", error.strerror) if error.filename is not None else str(error))
+    except MemoryError:
+        tell("there is not enough memory")
     except KeyboardInterrupt:
         return INTERRUPTED
     return UNUSABLE
@@ -75,7 +77,7 @@ class ShowVersion(argparse.Action):
 @functools.lru_cache(maxsize=None)
 def parser_of_all() -> argparse.ArgumentParser:
     """The parser of all commands."""
-    parser = Parser(prog=PROGRAM, description=ABOUT)
+    parser = Parser(prog=PROGRAM, description=ABOUT, allow_abbrev=False)
     parser.add_argument("--version", action=ShowVersion, nargs=0, help="show the version and end")
     subparsers = parser.add_subparsers(title="commands", metavar="COMMAND", dest="command", required=True)
     for add in (add_join, add_pack, add_unpack, add_rows, add_dump, add_plan):
@@ -86,7 +88,8 @@ def parser_of_all() -> argparse.ArgumentParser:
 def add_command(subparsers: Any, function: Any, about: str) -> argparse.ArgumentParser:
     """The parser of one command, which is called as the function that runs it."""
     help_line = (function.__doc__ or "").split(". ")[0].rstrip(".")
-    parser: argparse.ArgumentParser = subparsers.add_parser(function.__name__, help=help_line, description=about)
+    parser: argparse.ArgumentParser = subparsers.add_parser(
+        function.__name__, help=help_line, description=about, allow_abbrev=False)
     parser.set_defaults(run=function)
     return parser
 
@@ -107,7 +110,7 @@ def add_join(subparsers: Any) -> None:
     p.add_argument("files", metavar="FILE", nargs="+", help="CSV files, up to 16 of up to 4,096 rows; or a packed file")
     p.add_argument("--plan", help="such as '(frames (exposures readings))'; needed where there are several CSV files, and in "
                    "place of its own with a packed file")
-    p.add_argument("-o", "--output", metavar="OUT", help="the file to write (without this: standard output)")
+    p.add_argument("-o", "--output", metavar="OUT", default="-", help="the file to write (without this, or -: standard output)")
     p.add_argument("--explain", action="store_true", help="draw the plan on standard error, with the work that was done")
     add_csv_options(p)
 

@@ -75,7 +75,7 @@ def join(a: Arguments) -> int:
 
 def join_and_write(a: Arguments) -> int:
     """Joins what the arguments name, and writes the rows."""
-    if a.output is not None:
+    if a.output != "-":
         files.refuse_target(a.output, a.files + [path + filenames.ENDING for path in a.files])
     data, names = load_inputs(a)
     file = fileformat.read(data, names)
@@ -86,7 +86,7 @@ def join_and_write(a: Arguments) -> int:
     if drawing:
         tell("\n".join([""] + drawing.work(result)), prefix="")
     text = csvfiles.columns_text([(int(a), column) for a, column in result.columns.items()], names)
-    if a.output is None:
+    if a.output == "-":
         write_out(text)
     else:
         files.save([(a.output, text.encode("utf-8"))])

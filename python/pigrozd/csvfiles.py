@@ -1,10 +1,11 @@
 """Tables from CSV files and to them: the first line has the names of the attributes, each further line is a row."""
 import csv
 import io
+import itertools
 import os
 import re
 import struct
-from typing import Any, Dict, Iterable, List, Optional, Sequence, Tuple
+from typing import Any, Dict, Iterable, Iterator, List, Optional, Sequence, TextIO, Tuple
 
 from . import plans
 from .fileformat import PLAN_MARK, TABLE_MARK, File, Table, plan_record, table_record
@@ -14,6 +15,7 @@ from .names import Names, fault_of_attribute_name, fault_of_table_name
 from .values import LARGEST, value_of_text
 
 ENDING = ".csv"
+MOST_LINE = 2 ** 20  # letters of a line that are read
 
 
 class Sheet:
@@ -47,10 +49,21 @@ def read(path: str) -> Sheet:
         start = stream.peek(16)[:16]
         if start[:2] in (TABLE_MARK, PLAN_MARK) and b"\0" in start:
             raise InputError("%s: a packed file, not CSV; a packed file is joined alone" % path)
-        read_lines(sheet, io.TextIOWrapper(stream, encoding="utf-8-sig", newline=""))
+        read_lines(sheet, lines_of(sheet, io.TextIOWrapper(stream, encoding="utf-8-sig", newline="")))
     if not sheet.header:
         raise InputError("%s, line 1: the line with the names of the attributes is missing" % path)
     return sheet
+
+
+def lines_of(sheet: Sheet, text: TextIO) -> Iterator[str]:
+    """The lines of a file, if they are not endless."""
+    for number in itertools.count(1):
+        line = text.readline(MOST_LINE)
+        if not line:
+            return
+        if len(line) == MOST_LINE:
+            raise sheet.error(number, None, "a line of {:,} letters or more".format(MOST_LINE))
+        yield line
 
 
 def read_lines(sheet: Sheet, text: Iterable[str]) -> None:

@@ -3,21 +3,40 @@
 A FIFO or a device can be read, once and up to its end. It cannot be written: renaming would put a file in its place.
 """
 import os
+import re
 import stat
 import tempfile
-from typing import Iterable, List, Tuple
+from typing import BinaryIO, Iterable, List, Tuple
 
 from .messages import InputError
+
+
+MOST_READ = 2 ** 26  # bytes of an input that are read; document 01's longest file has 2,097,570
 
 
 def load(path: str) -> bytes:
     """The bytes of a file."""
     with open(path, "rb") as stream:
-        return stream.read()
+        return read_all(stream, path)
+
+
+def read_all(stream: BinaryIO, called: str) -> bytes:
+    """The bytes of a stream up to its end, if it has one."""
+    data = stream.read(MOST_READ + 1)
+    if len(data) > MOST_READ:
+        raise InputError("{} is longer than {:,} bytes, and no input may be so long".format(called, MOST_READ))
+    return data
+
+
+STREAMS = re.compile(r"/dev/(stdin|stdout|stderr)|/dev/fd/.*|/proc/.*")  # these may lead to a regular file
 
 
 def refuse_target(path: str, inputs: Iterable[str]) -> None:
     """Refuses to write to what is not a regular file, and to one of the inputs."""
+    if not os.path.basename(path):
+        raise InputError("%r is not the name of a file" % path)
+    if STREAMS.fullmatch(os.path.abspath(path)):
+        raise InputError("%s is no regular file, and only these are written" % path)
     try:
         mode = os.stat(path).st_mode
     except FileNotFoundError:

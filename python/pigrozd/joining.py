@@ -7,6 +7,7 @@ from . import names as filenames
 from . import plans
 from .answers import LAST_OF_PLANS, Refused
 from .fileformat import File, plan_record, read
+from .files import load
 from .library import Answer, bytes_of, call_with_enough
 from .limits import HIGHEST_COUNT, MOST_OUTPUT
 from .messages import InputError, count
@@ -39,8 +40,7 @@ def join_file(file: Any) -> Result:
     if not isinstance(file, (str, os.PathLike)):
         return join_bytes(bytes_of(file), Names())
     path = os.fsdecode(file)
-    with open(path, "rb") as stream:
-        data = stream.read()
+    data = load(path)
     names = filenames.beside(path, data, lambda text: warnings.warn(text, stacklevel=4))
     if not names.attributes:
         return join_bytes(data, names)

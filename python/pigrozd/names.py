@@ -13,6 +13,7 @@ import os
 import re
 from typing import Callable, Dict, Iterable, Optional, Set, Tuple
 
+from .files import load
 from .limits import ATTRIBUTE_NUMBERS, MOST_TABLES
 from .values import LARGEST
 from .messages import InputError
@@ -129,10 +130,7 @@ def read_line(line: str, names: Names, seen: Set[Tuple[int, str]]) -> None:
 
 def load_beside(path: str) -> Optional[bytes]:
     """The bytes of FILE.names for the file at this path, or None if there is no such file."""
-    if not os.path.isfile(path + ENDING):
-        return None
-    with open(path + ENDING, "rb") as stream:
-        return stream.read()
+    return load(path + ENDING) if os.path.isfile(path + ENDING) else None
 
 
 def beside(path: str, data: bytes, warn: Callable[[str], None]) -> Names:

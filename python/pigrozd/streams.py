@@ -4,6 +4,7 @@ import os
 import sys
 from typing import BinaryIO
 
+from .files import read_all
 from .messages import InputError
 
 PROGRAM = "pigrozd"
@@ -52,7 +53,7 @@ def standard_input() -> bytes:
     """All of standard input."""
     if sys.stdin is None:
         raise InputError("standard input is closed")
-    return sys.stdin.buffer.read()
+    return read_all(sys.stdin.buffer, "standard input")
 
 
 def drop(stream: object) -> None:

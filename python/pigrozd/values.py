@@ -27,8 +27,10 @@ def value_of_text(text: str) -> Optional[int]:
 def is_missing(value: Any) -> bool:
     """Whether the value stands for none: None, NaN, pandas' NA and NaT, NumPy's NaT and masked."""
     pandas, masked = sys.modules.get("pandas"), sys.modules.get("numpy.ma")
-    if value is None or pandas and value is getattr(pandas, "NA", None) or masked and value is masked.masked:
+    if value is None or pandas and value is getattr(pandas, "NA", None):
         return True
+    if masked and isinstance(value, masked.MaskedArray):  # masked itself, or an array of no dimension
+        return bool(masked.getmaskarray(value).any())
     try:
         return bool(value != value)  # so it is with NaN and NaT alone
     except (TypeError, ValueError):
@@ -98,7 +100,7 @@ def refuse_kind(values: Any, where: str) -> None:
     if dimensions != 1:
         raise ValueError("%s: a column has one dimension, not %s" % (where, dimensions))
     dtype: Any = getattr(values, "dtype", None)
-    if getattr(dtype, "kind", "") == "f" and dtype.itemsize != 8:
+    if getattr(dtype, "kind", "") == "f" and dtype.itemsize < 8:
         raise TypeError("%s: %s does not hold every number from %s; give whole numbers or float64" % (where, dtype, RANGE))
 
 
@@ -126,5 +128,6 @@ def items_of(values: Any, where: str) -> Union[bytes, Iterable[Any]]:
     if view.itemsize == 4 and view.format.lstrip("@=<") in ("I", "L") and sys.byteorder == "little":
         return view.tobytes()
     if not WHOLE_NUMBERS.fullmatch(view.format) and not LONG_FLOATS.fullmatch(view.format):
-        raise TypeError("%s: a column holds whole numbers, not items of the format %r" % (where, view.format))
+        kind = "truth values" if view.format.endswith("?") else "items of the format %r" % view.format
+        raise TypeError("%s: a column holds whole numbers, not %s" % (where, kind))
     return [item for item, in struct.iter_unpack(view.format, view.tobytes())]
