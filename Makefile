@@ -61,8 +61,8 @@ check-c: lib target/bin/pigrozd
 	MAKE='$(MAKE)' CC='$(CC)' sh tests/test_install.sh
 	sh tests/test_pages.sh
 
-# The Python package: the library through it, tables and values, the file format, pip. Then its commands. What NumPy and pandas
-# are needed for is skipped, in words, where they are not there: make check-users PYTHON=/usr/bin/python3 names another Python.
+# The Python package: the library through it, tables and values, the file format, pip. Then its commands. What needs
+# NumPy or pandas is skipped, in words, where they are not there; make check-users PYTHON=/usr/bin/python3 names another.
 PYTHON = python3
 
 check-python: lib

@@ -1,7 +1,7 @@
 """Puts the shared library into the package that is built. All else stands in pyproject.toml.
 
-setuptools makes wheels itself from version 70.1 on. Before that it needs the package wheel, and where that is missing and
-cannot be fetched, the command below takes its place.
+setuptools makes wheels itself from version 70.1 on. Before that it needs the package wheel, and where that is missing
+and cannot be fetched, the command below takes its place.
 """
 import base64
 import hashlib
@@ -40,6 +40,7 @@ class PlatformDistribution(Distribution):
 
 class PlainWheel(Command):
     """bdist_wheel where the package wheel is missing: a zip of the package, its metadata and a list of digests."""
+
     description = "make a wheel"
     user_options = [("dist-dir=", "d", "the folder for the wheel")]
 

@@ -9,7 +9,21 @@ import subprocess
 import sys
 import unittest
 
-from support import CSVS, PROGRAM, ROWS, SAMPLE, SAMPLE_PLAN, TOP, Folder, damaged, expected, load, needs_program, path, samples
+from support import (
+    CSVS,
+    PROGRAM,
+    ROWS,
+    SAMPLE,
+    SAMPLE_PLAN,
+    TOP,
+    Folder,
+    damaged,
+    expected,
+    load,
+    needs_program,
+    path,
+    samples,
+)
 
 import reference
 from pigrozd import commandline, dumps, fileformat, limits, names
@@ -102,10 +116,17 @@ class Dumping(Folder):
         bad = self.write("bad", SAMPLE[:121] + bytes([255, 0, 255, 2, 1]))
         self.write("bad.names", "0 frame\n1 exposure\n2 reading\ntable 2 readings\n")
         out, _ = self.command("dump", bad)
-        self.assertIn("refused 9 0: the plan is not well-behaved: the join of table0 with readings and table1 is on exposure, but "
-                      "readings, the leftmost table on the right, has no exposure", out)
-        self.assertIn("     121  ff                                               index 0   join on exposure; not well-behaved\n"
-                      "          ^^ answer 9, detail 0: ", out)
+        self.assertIn(
+            "refused 9 0: the plan is not well-behaved: the join of table0 with readings and table1 is on exposure, "
+            "but "
+            "readings, the leftmost table on the right, has no exposure",
+            out,
+        )
+        self.assertIn(
+            "     121  ff                                               index 0   join on exposure; not well-behaved\n"
+            "          ^^ answer 9, detail 0: ",
+            out,
+        )
         out, _ = self.command("dump", "--answer", "6", "126", bad)
         self.assertIn("     126  end of the file\n          ^^ answer 6", out)
         self.fails("there is no such answer", "dump", bad, "--answer", "14", "0")
@@ -138,13 +159,24 @@ class Packing(Folder):
         out, err = self.pack("--plan", SAMPLE_PLAN, *CSVS)
         self.assertEqual(self.read("out"), SAMPLE)
         self.assertEqual((out, err), (self.at("out") + ": 126 bytes, 3 tables, 11 rows\n", ""))
-        self.assertEqual(self.read("out.names").decode(), self.digest_line("out") + "0 frame\n1 exposure\n2 reading\n"
-                         "3 centikelvin\ntable 0 frames\ntable 1 exposures\ntable 2 readings\n")
+        self.assertEqual(
+            self.read("out.names").decode(),
+            self.digest_line("out") + "0 frame\n1 exposure\n2 reading\n"
+            "3 centikelvin\ntable 0 frames\ntable 1 exposures\ntable 2 readings\n",
+        )
         self.assertEqual(sorted(os.listdir(self.folder)), ["out", "out.names"])
 
     def test_options_may_stand_anywhere(self):
-        self.command("pack", "--plan", SAMPLE_PLAN, self.at("out"), *CSVS[:1], "--attributes",
-                     "frame,exposure,reading,centikelvin", *CSVS[1:])
+        self.command(
+            "pack",
+            "--plan",
+            SAMPLE_PLAN,
+            self.at("out"),
+            *CSVS[:1],
+            "--attributes",
+            "frame,exposure,reading,centikelvin",
+            *CSVS[1:],
+        )
         self.assertEqual(self.read("out"), SAMPLE)
         self.command("pack", self.at("out"), "--plan", SAMPLE_PLAN, *CSVS)
 
@@ -153,31 +185,53 @@ class Packing(Folder):
         self.pack("--attributes", "frame,,,exposure", frames)
         words = (9, 2, 10, 11, 1, 2)  # mask, row count, columns
         self.assertEqual(self.read("out"), b"TB" + b"".join(w.to_bytes(4, "little") for w in words) + b"PL\1\0")
-        self.assertEqual(self.read("out.names").decode(), self.digest_line("out") + "0 frame\n3 exposure\ntable 0 frames\n")
+        self.assertEqual(
+            self.read("out.names").decode(), self.digest_line("out") + "0 frame\n3 exposure\ntable 0 frames\n"
+        )
 
     def test_attributes_not_given_right(self):
-        self.refused(r"exposures.csv, line 1, column 2 \(reading\): not among", "--plan", SAMPLE_PLAN,
-                     "--attributes", "frame,exposure", *CSVS)
+        self.refused(
+            r"exposures.csv, line 1, column 2 \(reading\): not among",
+            "--plan",
+            SAMPLE_PLAN,
+            "--attributes",
+            "frame,exposure",
+            *CSVS,
+        )
         self.refused("stands there twice", "--plan", SAMPLE_PLAN, "--attributes", "frame,frame", *CSVS)
-        self.refused("at most 32 attributes", "--plan", SAMPLE_PLAN,
-                     "--attributes", "frame" + "," * 32 + "exposure,reading,centikelvin", *CSVS)
+        self.refused(
+            "at most 32 attributes",
+            "--plan",
+            SAMPLE_PLAN,
+            "--attributes",
+            "frame" + "," * 32 + "exposure,reading,centikelvin",
+            *CSVS,
+        )
         self.refused("--attributes .*: a line break", "--plan", SAMPLE_PLAN, "--attributes", "frame\nexposure", *CSVS)
         self.refused("--text .*: a line break", "--plan", SAMPLE_PLAN, "--text", "frame\r", *CSVS)
-        self.refused("--attributes .*not UTF-8", "--plan", SAMPLE_PLAN, "--attributes",
-                     "frame,exposure,reading,centikelvin,\udcff", *CSVS)
+        self.refused(
+            "--attributes .*not UTF-8",
+            "--plan",
+            SAMPLE_PLAN,
+            "--attributes",
+            "frame,exposure,reading,centikelvin,\udcff",
+            *CSVS,
+        )
 
     def test_values(self):
-        t = self.write("t.csv", "\ufeffa , b\r\n0, 4294967295\r\n\r\n 007,\"5\"\r\n")
+        t = self.write("t.csv", '\ufeffa , b\r\n0, 4294967295\r\n\r\n 007,"5"\r\n')
         self.pack("--plan", "t", t)
         file = fileformat.read(self.read("out"))
         self.assertEqual([file.values(file.tables[0], i) for i in (0, 1)], [[0, 7], [4294967295, 5]])
-        self.assertEqual(names.beside(self.at("out"), self.read("out"), self.fail).attributes, {0: "a", 1: "b"})
+        self.assertEqual(names.names_beside(self.at("out"), self.read("out"), self.fail).attributes, {0: "a", 1: "b"})
 
     def test_values_refused(self):
         for value in ("4294967296", "-1", "+1", "1.0", "1e3", "", "ten", "1_0", "0x10", "9" * 5000, "٣", "\0"):
             with self.subTest(value[:12]):
                 t = self.write("t.csv", "a,b\n1,2\n3,%s\n" % value)
-                self.refused(r"t\.csv, line 3(, column 2 \(b\): .* is not a number from 0 to 4294967295|: not CSV: .*NUL)", t)
+                self.refused(
+                    r"t\.csv, line 3(, column 2 \(b\): .* is not a number from 0 to 4294967295|: not CSV: .*NUL)", t
+                )
 
     def test_csv_files_refused(self):
         for pattern, content in {
@@ -188,10 +242,10 @@ class Packing(Folder):
             r"line 1, column 3: a stands in this line already": "a,b,a\n",
             r"line 1, column 9 \(i\): a table has at most 8 attributes": "a,b,c,d,e,f,g,h,i\n",
             "line 4098: a table has at most 4,096 rows": "a\n" + "5\n" * 4097,
-            "line 2: not CSV": "a,b\n1,\"2\n",
+            "line 2: not CSV": 'a,b\n1,"2\n',
             "line 2: not CSV: field larger": "a\n" + "5" * 200000,
             "not UTF-8": b"a,b\n1,\xff\n",
-            "line 1, column 1: a line break": "\"a\nb\"\n",
+            "line 1, column 1: a line break": '"a\nb"\n',
             "a packed file, not CSV; a packed file is joined alone": SAMPLE,
         }.items():
             with self.subTest(pattern):
@@ -206,8 +260,10 @@ class Packing(Folder):
         self.assertIn("note: the program says 13", err)
         self.assertIsNone(fileformat.read(self.read("out")).fault)
         t = self.write("t.csv", "a\n" + "1\n" * 4096)
-        self.assertIn("note: the program says 10, it lends 16,384 words of scratch; pigrozd join takes the file with 32,768",
-                      self.pack(t)[1])
+        self.assertIn(
+            "note: the program says 10, it lends 16,384 words of scratch; pigrozd join takes the file with 32,768",
+            self.pack(t)[1],
+        )
 
     def test_tables(self):
         several = [self.write("t%d.csv" % i, "a\n5\n") for i in range(17)]
@@ -216,35 +272,55 @@ class Packing(Folder):
             chain = "(%s t%d)" % (chain, i)
         self.refused("at most 16 tables", "--plan", "(%s t16)" % chain, *several)
         os.mkdir(self.at("other"))
-        self.refused("a table called t0 was given already", "--plan", "t0", several[0], self.write("other/t0.csv", "a\n5\n"))
+        self.refused(
+            "a table called t0 was given already", "--plan", "t0", several[0], self.write("other/t0.csv", "a\n5\n")
+        )
         self.pack("--plan", chain, *several[:16])
         self.assertEqual(self.read("out"), samples()["tables_16"])
 
     def test_plans(self):
         self.refused("plan .*at character 9: no table is called panels", "--plan", "(frames panels)", *CSVS)
         self.refused("--plan is missing: it says how 3 tables are joined, such as '\\(frames exposures\\)'", *CSVS)
-        self.refused("refused 8 2: .*names frames a second time; nothing is written", "--plan", "(frames frames)", *CSVS, status=1)
-        self.refused("refused 8 3: .*leaves out readings; nothing is written", "--plan", "(frames exposures)", *CSVS, status=1)
-        self.pack("--plan", " ( 0(\"exposures\"  2) )", *CSVS)
+        self.refused(
+            "refused 8 2: .*names frames a second time; nothing is written",
+            "--plan",
+            "(frames frames)",
+            *CSVS,
+            status=1,
+        )
+        self.refused(
+            "refused 8 3: .*leaves out readings; nothing is written", "--plan", "(frames exposures)", *CSVS, status=1
+        )
+        self.pack("--plan", ' ( 0("exposures"  2) )', *CSVS)
         self.assertEqual(self.read("out"), SAMPLE)
 
     def test_not_well_behaved(self):
         plan = "(frames (readings exposures))"
-        self.refused("refused 9 0: .* is on exposure, but readings, the leftmost table on the right, has no exposure; nothing is "
-                     "written", "--plan", plan, *CSVS, status=1)
+        self.refused(
+            "refused 9 0: .* is on exposure, but readings, the leftmost table on the right, has no exposure; nothing "
+            "is "
+            "written",
+            "--plan",
+            plan,
+            *CSVS,
+            status=1,
+        )
         _, err = self.pack("--anyway", "--plan", plan, *CSVS)
         self.assertIn("note: refused 9 0", err)
         self.assertEqual(self.read("out"), samples()["p2_second_and_third_table_swapped"])
 
     def test_texts(self):
-        left = self.write("left.csv", "panel,state\nnorth,1\n\"a \"\"b\"\", c\",2\nsüd ,3\n,4\n")
-        right = self.write("right.csv", "panel,side\nsüd ,in\nwest,out\n\"a \"\"b\"\", c\",in\n,out\n")
+        left = self.write("left.csv", 'panel,state\nnorth,1\n"a ""b"", c",2\nsüd ,3\n,4\n')
+        right = self.write("right.csv", 'panel,side\nsüd ,in\nwest,out\n"a ""b"", c",in\n,out\n')
         self.pack("--plan", "(left right)", "--text", "panel,side", left, right)
-        self.assertEqual(self.read("out.names").decode(), self.digest_line("out") + "0 panel\n1 state\n2 side\ntable 0 left\n"
-                         "table 1 right\ntext 0 0 north\ntext 0 1 a \"b\", c\ntext 0 2 süd \ntext 0 3 \ntext 0 4 west\n"
-                         "text 2 0 in\ntext 2 1 out\n")
+        self.assertEqual(
+            self.read("out.names").decode(),
+            self.digest_line("out") + "0 panel\n1 state\n2 side\ntable 0 left\n"
+            'table 1 right\ntext 0 0 north\ntext 0 1 a "b", c\ntext 0 2 süd \ntext 0 3 \ntext 0 4 west\n'
+            "text 2 0 in\ntext 2 1 out\n",
+        )
         printed = reference.printed(self.read("out")).encode()
-        rows = "panel,state,side\n\"a \"\"b\"\", c\",2,in\nsüd ,3,in\n,4,out\n"
+        rows = 'panel,state,side\n"a ""b"", c",2,in\nsüd ,3,in\n,4,out\n'
         self.assertEqual(self.command("rows", self.at("out"), stdin=printed)[0], rows)
         self.assertEqual(self.command("join", self.at("out"))[0], rows)
         before = self.read("out"), self.read("out.names")
@@ -254,7 +330,14 @@ class Packing(Folder):
         self.command(*shlex.split(command)[1:])
         self.assertEqual((self.read("out"), self.read("out.names")), before)
         self.fails("no attribute is called colour", "pack", self.at("out2"), "--text", "colour", left)
-        self.fails("line 2, column 1 .*line break", "pack", self.at("out2"), "--text", "p", self.write("x.csv", "p\n\"a\nb\"\n"))
+        self.fails(
+            "line 2, column 1 .*line break",
+            "pack",
+            self.at("out2"),
+            "--text",
+            "p",
+            self.write("x.csv", 'p\n"a\nb"\n'),
+        )
 
 
 class Replacing(Folder):
@@ -268,13 +351,17 @@ class Replacing(Folder):
     def left_alone(self, pattern, name, *arguments):
         before = {name: self.read(name) for name in os.listdir(self.folder) if os.path.isfile(self.at(name))}
         self.fails(pattern, "pack", self.at(name), *arguments)
-        self.assertEqual({name: self.read(name) for name in os.listdir(self.folder) if os.path.isfile(self.at(name))}, before)
+        self.assertEqual(
+            {name: self.read(name) for name in os.listdir(self.folder) if os.path.isfile(self.at(name))}, before
+        )
 
     def test_what_was_packed_is_replaced(self):
         self.command("pack", self.at("out"), self.csv)
         os.chmod(self.at("out"), 0o640)
         self.command("pack", self.at("out"), self.other)
-        self.assertEqual(fileformat.read(self.read("out")).values(fileformat.read(self.read("out")).tables[0], 0), [6])
+        self.assertEqual(
+            fileformat.read(self.read("out")).values(fileformat.read(self.read("out")).tables[0], 0), [6]
+        )
         self.assertEqual(os.stat(self.at("out")).st_mode & 0o777, 0o640)
 
     def test_other_files_are_left_alone(self):
@@ -302,7 +389,9 @@ class Replacing(Folder):
 
     def test_inputs_are_left_alone(self):
         for extra in ([], ["--force"]):
-            self.left_alone("t.csv is read here, so it is not written", "t.csv", self.other, self.csv, "--plan", "(u t)", *extra)
+            self.left_alone(
+                "t.csv is read here, so it is not written", "t.csv", self.other, self.csv, "--plan", "(u t)", *extra
+            )
             os.symlink(self.csv, self.at("link"))
             self.left_alone("link is read here, so it is not written", "link", self.csv, *extra)
             os.unlink(self.at("link"))
@@ -335,7 +424,7 @@ class Replacing(Folder):
         writer = subprocess.Popen(["cp", self.csv, self.at("f.csv")])
         self.command("pack", self.at("out"), self.at("f.csv"))
         self.assertEqual(writer.wait(), 0)
-        self.assertEqual(names.beside(self.at("out"), self.read("out"), self.fail).tables, {0: "f"})
+        self.assertEqual(names.names_beside(self.at("out"), self.read("out"), self.fail).tables, {0: "f"})
 
 
 class Unpacking(Folder):
@@ -374,8 +463,13 @@ class Unpacking(Folder):
     def test_bad_files(self):
         self.fails("refused 1 42: ", "unpack", self.write("cut", SAMPLE[:50]), self.at("cut_dir"), status=1)
         self.assertFalse(os.path.exists(self.at("cut_dir")))
-        self.fails("the tables are written, but the plan is bad: refused 6 126", "unpack",
-                   self.write("long", SAMPLE + b"\n"), self.at("d"), status=1)
+        self.fails(
+            "the tables are written, but the plan is bad: refused 6 126",
+            "unpack",
+            self.write("long", SAMPLE + b"\n"),
+            self.at("d"),
+            status=1,
+        )
         self.assertEqual(self.read("d/table2.csv"), b"a2,a3\n7,29510\n7,29510\n9,29530\n")
         self.fails("Not a directory|File exists", "unpack", self.write("good", SAMPLE), self.at("long"))
 
@@ -413,8 +507,13 @@ class RowsOfPrints(Folder):
         self.assertEqual(self.command("rows", self.at("out"), stdin=b"rows 0\nsteps 0 0 0 0\n")[0], ROWS[:35])
 
     def test_refused(self):
-        self.fails(r"standard input: refused 9 0: the plan is not well-behaved: .*; pigrozd dump .*out --answer 9 0 shows",
-                   "rows", self.at("out"), stdin=b"refused 9 0\n", status=1)
+        self.fails(
+            r"standard input: refused 9 0: the plan is not well-behaved: .*; pigrozd dump .*out --answer 9 0 shows",
+            "rows",
+            self.at("out"),
+            stdin=b"refused 9 0\n",
+            status=1,
+        )
 
     def test_other_text(self):
         for pattern, text in {
@@ -428,7 +527,9 @@ class RowsOfPrints(Folder):
             "1 row and then steps expected": "rows 1\n1 2 3 4\nsteps 1 1 1 1\nsteps 1 1 1 1\n",
         }.items():
             with self.subTest(pattern):
-                self.assertEqual(self.fails("standard input.*" + pattern, "rows", self.at("out"), stdin=text.encode()), "")
+                self.assertEqual(
+                    self.fails("standard input.*" + pattern, "rows", self.at("out"), stdin=text.encode()), ""
+                )
         self.fails("not the file of this print", "rows", self.write("cut", SAMPLE[:50]), stdin=self.print.encode())
 
     @needs_program
@@ -480,7 +581,10 @@ a result: frame, exposure, reading, centikelvin
         self.assertIn("NOT well-behaved: frames, the leftmost table on the left, has no reading\n", out)
         self.assertIn("join on nothing (every pair matches), byte 1", out)
         out, _ = self.command("plan", "((a b) (c d))", "--tables", "a=p", "b=q,r", "c=p", "d=q,r", status=1)
-        self.assertIn("a, the leftmost table on the left, has no q and no r; c, the leftmost table on the right, has no q and", out)
+        self.assertIn(
+            "a, the leftmost table on the left, has no q and no r; c, the leftmost table on the right, has no q and",
+            out,
+        )
 
     def test_tables_without_rows(self):
         out, _ = self.command("plan", "(a b)", "--tables", "a=x,y", "b=y")
@@ -489,11 +593,17 @@ a result: frame, exposure, reading, centikelvin
 
     def test_bad_files(self):
         known = samples()
-        for answer, data in (("1 42", SAMPLE[:50]), ("7 2", known["p5_plan_ends_early"]), ("8 3", known["p7_table_named_twice"])):
+        for answer, data in (
+            ("1 42", SAMPLE[:50]),
+            ("7 2", known["p5_plan_ends_early"]),
+            ("8 3", known["p7_table_named_twice"]),
+        ):
             self.assertEqual(self.fails("refused " + answer, "plan", self.write("bad", data), status=1), "")
         self.assertIn("the plan is well-behaved", self.command("plan", self.at("bad"), "--plan", "(0 (1 2))")[0])
         self.fails("no table is called x", "plan", self.at("bad"), "--plan", "(0 (1 x))")
-        self.fails("refused 8 3: .*names table0 a second time", "plan", self.at("bad"), "--plan", "(0 (0 1))", status=1)
+        self.fails(
+            "refused 8 3: .*names table0 a second time", "plan", self.at("bad"), "--plan", "(0 (0 1))", status=1
+        )
         self.fails("refused 8 3: .*leaves out table2", "plan", self.at("bad"), "--plan", "(0 1)", status=1)
 
     def test_usage(self):
@@ -504,8 +614,10 @@ a result: frame, exposure, reading, centikelvin
         self.fails("line break", "plan", "a", "--tables", "a=x\ny")
 
     def test_dot(self):
-        quoted = 'say x \\ y'
-        out, _ = self.command("plan", "(a (c b))", "--tables", "a=" + quoted, "b=p," + quoted, "c=p", "--dot", status=1)
+        quoted = "say x \\ y"
+        out, _ = self.command(
+            "plan", "(a (c b))", "--tables", "a=" + quoted, "b=p," + quoted, "c=p", "--dot", status=1
+        )
         self.assertIn('n0 [label="join on say x \\\\ y, byte 0 of the plan\\n', out)
         self.assertIn("color=red", out)
         self.assertEqual(out.count("->"), 4)
@@ -555,9 +667,17 @@ class Documents(Folder):
             for step in re.split(r"^\$ ", block.replace("\\\n", ""), flags=re.M)[1:]:
                 command, _, expect = step.partition("\n")
                 command = command.replace("target/bin/pigrozd", "python3 tests/reference.py")
-                command = command.replace("python3", sys.executable).replace("bin/pigrozd", sys.executable + " bin/pigrozd")
-                done = subprocess.run(command, shell=True, cwd=self.folder, stdout=subprocess.PIPE, stderr=subprocess.STDOUT,
-                                      env=environment)
+                command = command.replace("python3", sys.executable).replace(
+                    "bin/pigrozd", sys.executable + " bin/pigrozd"
+                )
+                done = subprocess.run(
+                    command,
+                    shell=True,
+                    cwd=self.folder,
+                    stdout=subprocess.PIPE,
+                    stderr=subprocess.STDOUT,
+                    env=environment,
+                )
                 self.assertEqual(done.stdout.decode().strip("\n"), expect.strip("\n"), command)
 
 

@@ -16,7 +16,7 @@ def damaged_sample(draw):
     """The sample, cut or with a few bytes changed."""
     data = bytearray(SAMPLE)
     if draw.random() < 0.3:
-        del data[draw.randrange(len(data)):]
+        del data[draw.randrange(len(data)) :]
     for _ in range(1 + draw.randrange(3)):
         if draw.random() < 0.5:
             damage(data, draw)
@@ -29,10 +29,12 @@ def damaged_text(text, draw):
     """A text file, cut or with a few bytes changed."""
     data = bytearray(text)
     if draw.random() < 0.3:
-        del data[draw.randrange(len(data)):]
+        del data[draw.randrange(len(data)) :]
     for _ in range(1 + draw.randrange(3)):
         at = draw.randrange(len(data) + 1)
-        data[at:at + draw.randrange(2)] = draw.choice([b",", b"\n", b"\"", b"\r", b"\0", b"\xff", b"-", bytes([draw.randrange(256)])])
+        data[at : at + draw.randrange(2)] = draw.choice(
+            [b",", b"\n", b'"', b"\r", b"\0", b"\xff", b"-", bytes([draw.randrange(256)])]
+        )
     return bytes(data)
 
 
@@ -41,7 +43,9 @@ class Damaged(Folder):
         """Runs a command; its status is one of the three, and is told if it is not 0."""
         status, out, err = self.run_here(*arguments, stdin=stdin)
         self.assertIn(status, (0, 1, 2))
-        self.assertTrue(status == 0 or err.startswith("pigrozd: ") or arguments[0] == "plan" and out, (arguments, err))
+        self.assertTrue(
+            status == 0 or err.startswith("pigrozd: ") or arguments[0] == "plan" and out, (arguments, err)
+        )
         return status, out, err
 
     def test_packed_files(self):
@@ -86,11 +90,18 @@ class Damaged(Folder):
             at = draw.randrange(3)
             folder = self.at("csv")
             os.makedirs(folder, exist_ok=True)
-            files = [self.write("csv/" + os.path.basename(path), damaged_text(text, draw) if place == at else text)
-                     for place, (path, text) in enumerate(zip(CSVS, texts))]
+            files = [
+                self.write("csv/" + os.path.basename(path), damaged_text(text, draw) if place == at else text)
+                for place, (path, text) in enumerate(zip(CSVS, texts))
+            ]
             with self.subTest(csv=self.read(files[at]), at=at):
                 self.ends("join", *files, "--plan", SAMPLE_PLAN)
-                self.ends("join", *files, "--plan", damaged_text(SAMPLE_PLAN.encode(), draw).decode("utf-8", "surrogateescape"))
+                self.ends(
+                    "join",
+                    *files,
+                    "--plan",
+                    damaged_text(SAMPLE_PLAN.encode(), draw).decode("utf-8", "surrogateescape"),
+                )
                 self.ends("pack", "--force", self.at("out"), *files, "--plan", SAMPLE_PLAN)
                 self.ends("plan", SAMPLE_PLAN, "--tables", *files)
             self.write("packed.names", damaged_text(draw.choice((names, by_hand)), draw))

@@ -40,11 +40,15 @@ class Reading(unittest.TestCase):
                 need = plans.words_needed(file.plan, file.tables)
                 if need:
                     self.assertEqual(reference.outcome(data, need - 1, 0)[:2], (10, need))
-                self.assertEqual([file.values(t, place) for t in file.tables for place in range(len(t.attributes))],
-                                 [t.columns[a] for t in tables for a in sorted(t.columns)])
+                self.assertEqual(
+                    [file.values(t, place) for t in file.tables for place in range(len(t.attributes))],
+                    [t.columns[a] for t in tables for a in sorted(t.columns)],
+                )
                 keys = {join.index: plans.key(join, file.tables) for join in plans.joins_of(file.plan)}
                 plan = reference.parse(code)[0]
-                self.assertEqual(keys, {join[0]: reference.key_attributes(tables, join) for join in reference.joins(plan)})
+                self.assertEqual(
+                    keys, {join[0]: reference.key_attributes(tables, join) for join in reference.joins(plan)}
+                )
                 number, _, rows, counts = reference.outcome(data, 100000, 100000)
                 if number == 0:
                     bound, _ = plans.work_bound(file.plan, file.tables, len(rows))
@@ -74,8 +78,13 @@ class Writing(unittest.TestCase):
             file = fileformat.read(data)
             if not file.fault:
                 with self.subTest(name):
-                    records = [fileformat.table_record([(a, data[slice(*table.column(place))]) for place, a in
-                                                        enumerate(table.attributes)], table.rows) for table in file.tables]
+                    records = [
+                        fileformat.table_record(
+                            [(a, data[slice(*table.column(place))]) for place, a in enumerate(table.attributes)],
+                            table.rows,
+                        )
+                        for table in file.tables
+                    ]
                     self.assertEqual(b"".join(records) + fileformat.plan_record(file.code), data)
 
 
@@ -94,7 +103,9 @@ class PlanText(unittest.TestCase):
 
     def test_numbers_and_names(self):
         self.assertEqual(plans.code_of("(1 0)", ["a", "b"]), bytes([255, 1, 0]))
-        self.assertEqual(plans.code_of("(1 0)", ["1", "a"]), bytes([255, 0, 0]))  # "1" is the name of table 0, and 0 its number
+        self.assertEqual(
+            plans.code_of("(1 0)", ["1", "a"]), bytes([255, 0, 0])
+        )  # "1" is the name of table 0, and 0 its number
         self.assertEqual(plans.code_of('("1" 1)', ["a", "1"]), bytes([255, 1, 1]))
         with self.assertRaisesRegex(InputError, "no table is called 1"):
             plans.code_of('"1"', ["a", "b"])
@@ -110,7 +121,7 @@ class PlanText(unittest.TestCase):
             "at character 8: the plan is whole before this": "frames exposures",
             "the plan is empty": " ",
             "no table is called 3": "(0 (1 3))",
-            "a double quote is not closed": "(frames (exposures \"readings))",
+            "a double quote is not closed": '(frames (exposures "readings))',
             "40000 brackets are not closed": "(" * 40000,
             "at most 255 bytes": "(" * 200 + "0" + " 1)" * 200,
         }.items():
@@ -123,17 +134,17 @@ class NamesOfFiles(Folder):
     def beside(self, text):
         self.write("file.names", text)
         self.warnings = []
-        return names.beside(self.at("file"), SAMPLE, self.warnings.append)
+        return names.names_beside(self.at("file"), SAMPLE, self.warnings.append)
 
     def test_digest(self):
         known = names.Names()
         known.attributes, known.tables, known.texts = {0: "frame"}, {1: "t"}, {2: {7: "dark "}}
-        text = names.to_text(known, SAMPLE)
+        text = names.names_text(known, SAMPLE)
         self.assertEqual(text, "sha256 %s\n0 frame\ntable 1 t\ntext 2 7 dark \n" % names.digest(SAMPLE))
         again = self.beside(text)
         self.assertEqual((vars(again), self.warnings), (vars(known), []))
         self.assertEqual(vars(self.beside(text.replace("\n", "\r\n"))), vars(known))
-        other = self.beside(names.to_text(known, SAMPLE + b"\n"))
+        other = self.beside(names.names_text(known, SAMPLE + b"\n"))
         self.assertEqual(vars(other), vars(names.Names()))
         self.assertRegex(self.warnings[0], "file.names belongs to another file than .*file: its digest differs")
 
@@ -162,15 +173,20 @@ class CsvNames(unittest.TestCase):
     def test_lists(self):
         self.assertEqual(csvfiles.name_list('a, b,"c,d",,e', "--text"), ["a", "b", "c,d", "", "e"])
         for text in ("a\nb", "a\r", "a\rb", '"a', '"a"b'):
-            with self.subTest(text), self.assertRaisesRegex(InputError, "^--text .*(line break|unexpected end|expected after)"):
+            with self.subTest(text), self.assertRaisesRegex(
+                InputError, "^--text .*(line break|unexpected end|expected after)"
+            ):
                 csvfiles.name_list(text, "--text")
 
 
 class OnePlace(unittest.TestCase):
     def test_one_place_for_each_meaning(self):
         """The marks of records and the words of an answer stand in one module of the package each."""
-        modules = {name: load("python", "pigrozd", name).decode() for name in os.listdir(path("python", "pigrozd"))
-                   if name.endswith(".py")}
+        modules = {
+            name: load("python", "pigrozd", name).decode()
+            for name in os.listdir(path("python", "pigrozd"))
+            if name.endswith(".py")
+        }
         told = {meaning.means: "answers.py" for number, meaning in MEANINGS.items() if number}
         for text, module in {'b"TB"': "fileformat.py", 'b"PL"': "fileformat.py", **told}.items():
             self.assertEqual([name for name in modules if text in modules[name]], [module], text)

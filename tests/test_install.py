@@ -26,25 +26,45 @@ class Installed(Folder):
         shutil.copytree(path("python"), self.at("python"), ignore=shutil.ignore_patterns("__pycache__", "*.egg-info"))
         os.makedirs(self.at("target/lib"))
         shutil.copy(path("target", "lib", "libpigrozd.so"), self.at("target/lib"))
-        pip = [sys.executable, "-m", "pip", "install", "--no-build-isolation", "--no-deps", "--no-index", "--quiet",
-               "--disable-pip-version-check", "--target", self.at("installed"), self.folder]
+        pip = [
+            sys.executable,
+            "-m",
+            "pip",
+            "install",
+            "--no-build-isolation",
+            "--no-deps",
+            "--no-index",
+            "--quiet",
+            "--disable-pip-version-check",
+            "--target",
+            self.at("installed"),
+            self.folder,
+        ]
         done = subprocess.run(pip, stdout=subprocess.PIPE, stderr=subprocess.STDOUT)
         self.assertEqual(done.returncode, 0, done.stdout.decode())
         environment = dict(os.environ, PYTHONPATH=self.at("installed"))
         environment.pop("PIGROZD_LIBRARY", None)
         shutil.rmtree(self.at("target"))
         for start in ([self.at("installed/bin/pigrozd")], ["-m", "pigrozd"]):
-            done = subprocess.run([sys.executable, *start, "join", *CSVS, "--plan", SAMPLE_PLAN], env=environment,
-                                  stdout=subprocess.PIPE, cwd=self.folder)
+            done = subprocess.run(
+                [sys.executable, *start, "join", *CSVS, "--plan", SAMPLE_PLAN],
+                env=environment,
+                stdout=subprocess.PIPE,
+                cwd=self.folder,
+            )
             self.assertEqual((done.returncode, done.stdout.decode()), (0, ROWS))
         self.assertTrue(os.path.exists(self.at("installed/pigrozd/py.typed")))
-        done = subprocess.run([sys.executable, *start, "--version"], env=environment, stdout=subprocess.PIPE, check=True)
+        done = subprocess.run(
+            [sys.executable, *start, "--version"], env=environment, stdout=subprocess.PIPE, check=True
+        )
         self.assertEqual(done.stdout.decode(), "pigrozd %s\n" % pigrozd.__version__)
 
     def test_started_from_elsewhere(self):
         """bin/pigrozd finds the package through a link and from another folder."""
         os.symlink(path("bin", "pigrozd"), self.at("linked"))
-        done = subprocess.run([sys.executable, self.at("linked"), "join", CSVS[0]], stdout=subprocess.PIPE, cwd=self.folder)
+        done = subprocess.run(
+            [sys.executable, self.at("linked"), "join", CSVS[0]], stdout=subprocess.PIPE, cwd=self.folder
+        )
         self.assertEqual(done.returncode, 0)
         self.assertTrue(os.access(path("bin", "pigrozd"), os.X_OK))
 
@@ -75,13 +95,17 @@ class Source(unittest.TestCase):
             for name in os.listdir(path(folder)):
                 if name.endswith(".py") and name not in ("make_samples.py", "reference.py"):
                     for line in load(folder, name).decode().splitlines():
-                        self.assertLess(len(line), 140, name)
+                        self.assertLess(len(line), 120, name)
 
     def test_nothing_but_the_standard_library(self):
         """NumPy and pandas are imported by the two functions that make their objects, and nothing else is."""
         code = "import sys, pigrozd.commandline; print([n for n in ('numpy', 'pandas') if n in sys.modules])"
-        done = subprocess.run([sys.executable, "-c", code], env=dict(os.environ, PYTHONPATH=path("python")),
-                              stdout=subprocess.PIPE, check=True)
+        done = subprocess.run(
+            [sys.executable, "-c", code],
+            env=dict(os.environ, PYTHONPATH=path("python")),
+            stdout=subprocess.PIPE,
+            check=True,
+        )
         self.assertEqual(done.stdout, b"[]\n")
 
 

@@ -26,11 +26,15 @@ class Joining(Folder):
 
     def test_packed_file(self):
         place = self.write("sample", SAMPLE)
-        self.assertEqual(self.command("join", place)[0], ROWS.replace("frame,exposure,reading,centikelvin", "a0,a1,a2,a3"))
+        self.assertEqual(
+            self.command("join", place)[0], ROWS.replace("frame,exposure,reading,centikelvin", "a0,a1,a2,a3")
+        )
         self.assertEqual(self.command("join", place, "--plan", "((1 2) 0)")[0].count("\n"), 5)
         self.command("pack", self.at("out"), "--plan", SAMPLE_PLAN, *CSVS)
         self.assertEqual(self.command("join", self.at("out"))[0], ROWS)
-        self.assertEqual(self.command("join", self.at("out"), "--plan", "(readings (exposures frames))")[0].count("\n"), 5)
+        self.assertEqual(
+            self.command("join", self.at("out"), "--plan", "(readings (exposures frames))")[0].count("\n"), 5
+        )
         self.fails("--attributes and --text go with CSV files", "join", place, "--text", "frame")
 
     def test_samples(self):
@@ -51,7 +55,14 @@ class Joining(Folder):
 
     def test_endless_inputs(self):
         self.fails("/dev/zero is longer than 67,108,864 bytes", "join", "/dev/zero")
-        self.fails("/dev/zero, line 1: a line of 1,048,576 letters or more", "join", "/dev/zero", CSVS[0], "--plan", "(zero frames)")
+        self.fails(
+            "/dev/zero, line 1: a line of 1,048,576 letters or more",
+            "join",
+            "/dev/zero",
+            CSVS[0],
+            "--plan",
+            "(zero frames)",
+        )
 
     def test_output_file(self):
         out = self.at("joined.csv")
@@ -77,29 +88,69 @@ class Joining(Folder):
 
     def test_a_refusal_writes_nothing(self):
         self.write("joined.csv", "before\n")
-        self.fails("refused 9 0: .*: the join of frames with readings and exposures is on exposure, but readings, the leftmost table "
-                   "on the right, has no exposure", "join", *CSVS, "--plan", "(frames (readings exposures))",
-                   "-o", self.at("joined.csv"), status=1)
+        self.fails(
+            "refused 9 0: .*: the join of frames with readings and exposures is on exposure, but readings, the "
+            "leftmost table "
+            "on the right, has no exposure",
+            "join",
+            *CSVS,
+            "--plan",
+            "(frames (readings exposures))",
+            "-o",
+            self.at("joined.csv"),
+            status=1,
+        )
         self.assertEqual(self.read("joined.csv"), b"before\n")
 
     def test_refusals_in_words(self):
         self.fails("refused 8 3: .*: it leaves out readings", "join", *CSVS, "--plan", "(frames exposures)", status=1)
         a = self.write("a.csv", "x\n" + "1\n" * 4096)
         b = self.write("b.csv", "y\n" + "1\n" * 4096)
-        self.fails(r"refused 11 16777216: .*: there are 16,777,216 results of 2 values, and the longest output \(1,048,576 words\) "
-                   "fits 524,288; the join of a with b is on no attribute", "join", a, b, "--plan", "(a b)", status=1)
-        self.fails("b.csv, line 4098: a table has at most 4,096 rows", "join", a, self.write("b.csv", "y\n" + "1\n" * 4097),
-                   "--plan", "(a b)")
-        self.fails("table.txt: refused 2 0: .*; a CSV file's name ends in .csv", "join", self.write("table.txt", "x\n1\n"), status=1)
+        self.fails(
+            r"refused 11 16777216: .*: there are 16,777,216 results of 2 values, and the longest output "
+            r"\(1,048,576 words\) "
+            "fits 524,288; the join of a with b is on no attribute",
+            "join",
+            a,
+            b,
+            "--plan",
+            "(a b)",
+            status=1,
+        )
+        self.fails(
+            "b.csv, line 4098: a table has at most 4,096 rows",
+            "join",
+            a,
+            self.write("b.csv", "y\n" + "1\n" * 4097),
+            "--plan",
+            "(a b)",
+        )
+        self.fails(
+            "table.txt: refused 2 0: .*; a CSV file's name ends in .csv",
+            "join",
+            self.write("table.txt", "x\n1\n"),
+            status=1,
+        )
         bad = self.write("bad", samples()["p3_left_plan_joined_first"])
         self.fails("bad: refused 9 0: .*; pigrozd dump .*bad shows it", "join", bad, status=1)
         self.fails("bad: refused 8 1: .*; pigrozd plan .*bad --plan 0 shows it", "join", bad, "--plan", "0", status=1)
-        self.fails("a packed file, not CSV; a packed file is joined alone", "join", a, self.write("p", SAMPLE), "--plan", "(a p)")
+        self.fails(
+            "a packed file, not CSV; a packed file is joined alone",
+            "join",
+            a,
+            self.write("p", SAMPLE),
+            "--plan",
+            "(a p)",
+        )
 
     def test_explain(self):
         out, err = self.command("join", *CSVS, "--plan", SAMPLE_PLAN, "--explain")
         self.assertEqual(out, ROWS)
-        for line in ("join on exposure, byte 0 of the plan", "|-- frames: 4 rows (frame, exposure)", "the plan is well-behaved"):
+        for line in (
+            "join on exposure, byte 0 of the plan",
+            "|-- frames: 4 rows (frame, exposure)",
+            "the plan is well-behaved",
+        ):
             self.assertIn(line + "\n", err)
         found = [line.rsplit(None, 1) for line in err.splitlines()[-10:-1]]
         self.assertEqual([number for _, number in found], ["11", "4", "6", "8", "19", "10", "16", "59", "1,150"])
@@ -124,7 +175,7 @@ class FullSize(Folder):
         draw = random.Random(5).randrange
         a = [(draw(9000), draw(6000)) for _ in range(4096)]
         b = [(draw(6000), draw(5000)) for _ in range(4096)]
-        c = [(draw(5000), draw(2 ** 32)) for _ in range(4096)]
+        c = [(draw(5000), draw(2**32)) for _ in range(4096)]
         files = [self.table("a", "w,x", a), self.table("b", "x,y", b), self.table("c", "y,z", c)]
         out = self.at("out.csv")
         self.command("join", *files, "--plan", "(a (b c))", "-o", out)
@@ -132,7 +183,9 @@ class FullSize(Folder):
         for name, rows in (("a", a), ("b", b), ("c", c)):
             base.execute("create table %s (p integer, q integer)" % name)
             base.executemany("insert into %s values (?, ?)" % name, rows)
-        expect = base.execute("select a.p, a.q, b.q, c.q from a, b, c where b.p = a.q and c.p = b.q order by a.rowid, b.rowid, c.rowid")
+        expect = base.execute(
+            "select a.p, a.q, b.q, c.q from a, b, c where b.p = a.q and c.p = b.q order by a.rowid, b.rowid, c.rowid"
+        )
         expect = [",".join(map(str, row)) for row in expect]
         self.assertGreater(len(expect), 1000)
         self.assertEqual(self.read("out.csv").decode().splitlines(), ["w,x,y,z"] + expect)
@@ -140,8 +193,10 @@ class FullSize(Folder):
     def test_sixteen_tables(self):
         """16 tables of 4,096 rows, each row with one partner in the next table."""
         names = ["t%d" % t for t in range(16)]
-        files = [self.table(name, "x%d,x%d" % (t, t + 1), [(i * 7 + t, i * 7 + t + 1) for i in range(4096)])
-                 for t, name in enumerate(names)]
+        files = [
+            self.table(name, "x%d,x%d" % (t, t + 1), [(i * 7 + t, i * 7 + t + 1) for i in range(4096)])
+            for t, name in enumerate(names)
+        ]
         plan = names[-1]
         for name in reversed(names[:-1]):
             plan = "(%s %s)" % (name, plan)
@@ -167,10 +222,18 @@ class Streams(Folder):
         self.assertEqual(self.process("join").returncode, 2)
 
     def test_full_device(self):
-        for arguments in (["join", CSVS[0]], ["--help"], ["join", "--help"], ["--version"], ["dump", path("crates/pigrozd/stdin")]):
+        for arguments in (
+            ["join", CSVS[0]],
+            ["--help"],
+            ["join", "--help"],
+            ["--version"],
+            ["dump", path("crates/pigrozd/stdin")],
+        ):
             with self.subTest(arguments), open("/dev/full", "wb") as full:
                 done = self.process(*arguments, stdout=full)
-                self.assertEqual((done.returncode, done.stderr), (2, b"pigrozd: standard output: No space left on device\n"))
+                self.assertEqual(
+                    (done.returncode, done.stderr), (2, b"pigrozd: standard output: No space left on device\n")
+                )
 
     def test_full_standard_error(self):
         with open("/dev/full", "wb") as full:
@@ -180,8 +243,14 @@ class Streams(Folder):
     def shell(self, command):
         """Runs a command in a shell, with $pigrozd in it."""
         program = "%s %s" % (sys.executable, path("bin", "pigrozd"))
-        done = subprocess.run(["bash", "-c", command], env=dict(os.environ, pigrozd=program), stderr=subprocess.PIPE,
-                              stdout=subprocess.PIPE, stdin=subprocess.DEVNULL, cwd=self.folder)
+        done = subprocess.run(
+            ["bash", "-c", command],
+            env=dict(os.environ, pigrozd=program),
+            stderr=subprocess.PIPE,
+            stdout=subprocess.PIPE,
+            stdin=subprocess.DEVNULL,
+            cwd=self.folder,
+        )
         self.assertNotIn(b"Traceback", done.stderr)
         self.assertNotIn(b"Exception ignored", done.stderr)
         return done
@@ -198,12 +267,16 @@ class Streams(Folder):
     def test_reader_that_stops(self):
         big = self.write("big.csv", "x\n" + "123456\n" * 4096)
         other = self.write("other.csv", "y\n" + "1\n" * 100)
-        done = self.shell("$pigrozd join %s %s --plan '(big other)' | head -n 1; exit ${PIPESTATUS[0]}" % (big, other))
+        done = self.shell(
+            "$pigrozd join %s %s --plan '(big other)' | head -n 1; exit ${PIPESTATUS[0]}" % (big, other)
+        )
         self.assertEqual((done.returncode, done.stdout, done.stderr), (2, b"x,y\n", b""))
 
     def test_interrupt(self):
         os.mkfifo(self.at("f.csv"))
-        started = subprocess.Popen([sys.executable, path("bin", "pigrozd"), "join", self.at("f.csv")], stderr=subprocess.PIPE)
+        started = subprocess.Popen(
+            [sys.executable, path("bin", "pigrozd"), "join", self.at("f.csv")], stderr=subprocess.PIPE
+        )
         with open(self.at("f.csv"), "wb"):  # it has opened the FIFO and waits for the first line
             time.sleep(0.2)
             started.send_signal(signal.SIGINT)

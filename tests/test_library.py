@@ -29,7 +29,7 @@ class Calls(unittest.TestCase):
         scratch, output = words(BEFORE) * scratch_words, words(BEFORE) * output_words
         answer = pigrozd.call(file, scratch, output)
         width = len(plans.width(fileformat.read(bytes(file)).tables))
-        rows = [output[width * i:width * i + width] for i in range(answer.rows)]
+        rows = [output[width * i : width * i + width] for i in range(answer.rows)]
         text = reference.lines((answer.number, answer.detail, rows, answer[3:]))
         if answer.number:
             self.assertEqual(answer[2:], (0, 0, 0, 0, 0))
@@ -50,7 +50,7 @@ class Calls(unittest.TestCase):
         text = []
         for name in names:
             sample = load("crates", "samples", "data", name)
-            lent = [int.from_bytes(sample[i:i + 4], "little") for i in (0, 4)]
+            lent = [int.from_bytes(sample[i : i + 4], "little") for i in (0, 4)]
             text.append(name + "\n" + self.printed(sample[8:], *lent))
         self.assertGreater(len(names), 100)
         self.assertEqual("".join(text).splitlines(), load("crates", "samples", "stdout").decode().splitlines())
@@ -68,7 +68,9 @@ class Calls(unittest.TestCase):
             with self.subTest(file=bytes(file).hex()):
                 self.assertEqual(self.printed(file, scratch, output).split("scratch")[0], expected)
                 fault = fileformat.read(bytes(file)).fault
-                self.assertEqual((fault.number, fault.detail) if fault else (0, 0), (number, detail) if number <= 9 else (0, 0))
+                self.assertEqual(
+                    (fault.number, fault.detail) if fault else (0, 0), (number, detail) if number <= 9 else (0, 0)
+                )
             numbers[number] += 1
         self.assertGreater(numbers[0], 50)
         self.assertGreater(len(numbers), 6)
@@ -120,7 +122,7 @@ def drawn_tables(chance):
     chance.shuffle(drawn)
     while len(drawn) > 1:
         i = chance.randrange(len(drawn) - 1)
-        drawn[i:i + 2] = [(drawn[i], drawn[i + 1])]
+        drawn[i : i + 2] = [(drawn[i], drawn[i + 1])]
     return tables, drawn[0]
 
 
@@ -134,18 +136,27 @@ class Loading(unittest.TestCase):
 
     def told(self, named):
         """What is told where PIGROZD_LIBRARY names this file."""
-        code = "import pigrozd\ntry:\n    pigrozd.join([{0: [1]}], 0)\nexcept pigrozd.LibraryError as error:\n    print(error)"
+        code = (
+            "import pigrozd\ntry:\n    pigrozd.join([{0: [1]}], 0)\n"
+            "except pigrozd.LibraryError as error:\n    print(error)"
+        )
         environment = dict(os.environ, PYTHONPATH=os.path.join(TOP, "python"), PIGROZD_LIBRARY=named)
-        return subprocess.run([sys.executable, "-c", code], env=environment, stdout=subprocess.PIPE, check=True).stdout.decode()
+        return subprocess.run(
+            [sys.executable, "-c", code], env=environment, stdout=subprocess.PIPE, check=True
+        ).stdout.decode()
 
     def test_missing_library(self):
-        self.assertRegex(self.told("./no-such-library.so"), "make lib builds it, PIGROZD_LIBRARY may name it.*no-such-library")
+        self.assertRegex(
+            self.told("./no-such-library.so"), "make lib builds it, PIGROZD_LIBRARY may name it.*no-such-library"
+        )
 
     def test_a_file_that_is_no_library(self):
         self.assertRegex(self.told(path("Makefile")), "cannot be loaded.*Makefile")
 
     def test_foreign_library(self):
-        self.assertRegex(self.told("libc.so.6"), "libc.so.6 is not Pigrozd's library: it has no function pigrozd_join")
+        self.assertRegex(
+            self.told("libc.so.6"), "libc.so.6 is not Pigrozd's library: it has no function pigrozd_join"
+        )
 
 
 if __name__ == "__main__":

@@ -27,8 +27,10 @@ TABLES = [FRAMES, EXPOSURES, READINGS]
 PLAN = (0, (1, 2))
 ROWS = [(10, 1, 7, 29510), (10, 1, 7, 29510), (11, 2, 9, 29530), (12, 2, 9, 29530)]
 ATTRIBUTES = ("frame", "exposure", "reading", "centikelvin")
-NAMED = {name: {ATTRIBUTES[a]: column for a, column in table.items()}
-         for name, table in zip(("frames", "exposures", "readings"), TABLES)}
+NAMED = {
+    name: {ATTRIBUTES[a]: column for a, column in table.items()}
+    for name, table in zip(("frames", "exposures", "readings"), TABLES)
+}
 
 
 def words(*values):
@@ -52,7 +54,15 @@ class Joins(unittest.TestCase):
         self.assertEqual(list(pigrozd.join(list(NAMED.values()), PLAN)), ROWS)
 
     def test_plans(self):
-        for plan in (PLAN, [0, [1, 2]], b"\xff\0\xff\1\2", bytearray(b"\xff\0\xff\1\2"), ((1, 0), 2), "(0 (1 2))", "((1 0) 2)"):
+        for plan in (
+            PLAN,
+            [0, [1, 2]],
+            b"\xff\0\xff\1\2",
+            bytearray(b"\xff\0\xff\1\2"),
+            ((1, 0), 2),
+            "(0 (1 2))",
+            "((1 0) 2)",
+        ):
             with self.subTest(plan=plan):
                 self.assertEqual(sorted(pigrozd.join(TABLES, plan)), ROWS)
         for plan in (("frames", ("exposures", "readings")), ["frames", (1, "readings")], '("frames" (exposures 2))'):
@@ -107,7 +117,10 @@ class Values(unittest.TestCase):
         self.assertEqual(result.columns[0], words(*values))
 
     def refused(self, kind, pattern, column):
-        for table, where in (({5: column}, "table 0, attribute 5"), ({"north": {"kelvin": column}}, "table north, column kelvin")):
+        for table, where in (
+            ({5: column}, "table 0, attribute 5"),
+            ({"north": {"kelvin": column}}, "table north, column kelvin"),
+        ):
             tables = [table] if 5 in table else table
             with self.subTest(column=column), self.assertRaisesRegex(kind, re.escape(where) + pattern):
                 pigrozd.join(tables, 0)
@@ -137,9 +150,9 @@ class Values(unittest.TestCase):
         self.check(memoryview(words(*self.VALUES))[::-1], self.VALUES[::-1])
 
     def test_wrong_numbers(self):
-        for value in (-1, 4294967296, 2 ** 80, -2.0, 4294967296.0, 2 ** 40000):
+        for value in (-1, 4294967296, 2**80, -2.0, 4294967296.0, 2**40000):
             self.refused(ValueError, r", row 1: .* is not in 0 to 4,294,967,295", [1, value])
-        for column in (array.array("i", [1, -1]), array.array("Q", [1, 2 ** 32])):
+        for column in (array.array("i", [1, -1]), array.array("Q", [1, 2**32])):
             self.refused(ValueError, r", row 1: .* is not in 0 to 4,294,967,295", column)
         for value in (1.5, float("inf"), -float("inf")):
             self.refused(ValueError, r", row 2: .* is not a whole number", [1, 2, value])
@@ -152,7 +165,11 @@ class Values(unittest.TestCase):
 
     def test_missing_values(self):
         for value in (None, float("nan"), decimal.Decimal("nan")):
-            self.refused(ValueError, r", row 1: .* stands for a missing value, and what is missing cannot be joined", [1, value])
+            self.refused(
+                ValueError,
+                r", row 1: .* stands for a missing value, and what is missing cannot be joined",
+                [1, value],
+            )
 
     def test_what_has_no_order(self):
         for column in ({1, 2}, frozenset((1, 2)), {1: 2}.keys(), {1: 2}.items()):
@@ -184,17 +201,32 @@ class Tables(unittest.TestCase):
     def test_attributes(self):
         self.refused(ValueError, "table 1: attribute numbers are 0 to 31, not 32", [FRAMES, {32: [1]}])
         self.refused(ValueError, "table 1: attribute numbers are 0 to 31, not -1", [FRAMES, {-1: [1]}])
-        self.refused(ValueError, "table 0: columns of different length: attribute 0 has 1, attribute 1 has 2", [{0: [1], 1: [1, 2]}], 0)
-        self.refused(ValueError, "table b: columns of different length: x has 1, y has 0", {"a": {"z": []}, "b": {"x": [1], "y": []}})
-        self.refused(TypeError, "table 0: an attribute is a name or a number from 0 to 31, not True", [{True: [1]}], 0)
+        self.refused(
+            ValueError,
+            "table 0: columns of different length: attribute 0 has 1, attribute 1 has 2",
+            [{0: [1], 1: [1, 2]}],
+            0,
+        )
+        self.refused(
+            ValueError,
+            "table b: columns of different length: x has 1, y has 0",
+            {"a": {"z": []}, "b": {"x": [1], "y": []}},
+        )
+        self.refused(
+            TypeError, "table 0: an attribute is a name or a number from 0 to 31, not True", [{True: [1]}], 0
+        )
         self.refused(TypeError, "table 0: an attribute is a name .* not None", [{None: [1]}], 0)
         self.refused(TypeError, "table 0: an attribute is a name .*, not \\('a', 1\\)", [{("a", 1): [1]}], 0)
         self.refused(ValueError, "table 0: an attribute without a name", [{"": [1]}], 0)
-        self.refused(ValueError, "have 33 attributes together, and at most 32", [{"a%d" % i: [1]} for i in range(33)], 0)
+        self.refused(
+            ValueError, "have 33 attributes together, and at most 32", [{"a%d" % i: [1]} for i in range(33)], 0
+        )
 
     def test_names_and_numbers_mixed(self):
         for tables in ([{"a": [1]}, {0: [1]}], [{"a": [1], 0: [1]}]):
-            self.refused(ValueError, "attributes have names or numbers, not both: table 0 has 'a' and table [01] has 0", tables)
+            self.refused(
+                ValueError, "attributes have names or numbers, not both: table 0 has 'a' and table [01] has 0", tables
+            )
 
     def test_what_is_no_table(self):
         self.refused(TypeError, "table 1: a table is a mapping of columns, .* not a list", [FRAMES, [1, 2]])
@@ -207,15 +239,24 @@ class Tables(unittest.TestCase):
 class Plans(unittest.TestCase):
     def test_wrong_plans(self):
         for pattern, plan in {
-            "not 1 of them": (0,), "not 3 of them": (0, 1, 2), "not 0 of them": (), "not 1 of them ?": [[0, 1], [2]],
-            "the plan has 16": 16, "the plan has -1": -1, "the plan has 300": (0, (1, 300)), "at most 255 bytes": bytes(256),
-            "no table is called frame;": "(frame 1)", "names a table 'x'; there are table 0, table 1 and table 2": (0, (1, "x")),
+            "not 1 of them": (0,),
+            "not 3 of them": (0, 1, 2),
+            "not 0 of them": (),
+            "not 1 of them ?": [[0, 1], [2]],
+            "the plan has 16": 16,
+            "the plan has -1": -1,
+            "the plan has 300": (0, (1, 300)),
+            "at most 255 bytes": bytes(256),
+            "no table is called frame;": "(frame 1)",
+            "names a table 'x'; there are table 0, table 1 and table 2": (0, (1, "x")),
             "at character 4: a join has two sides": "(0 )",
         }.items():
             with self.subTest(plan=plan), self.assertRaisesRegex(ValueError, pattern.rstrip(" ?")):
                 pigrozd.join(TABLES, plan)
         for plan in (1.0, {0: 1}, (0, None), (0, True), {0, 1}):
-            with self.subTest(plan=plan), self.assertRaisesRegex(TypeError, "a plan is a table's name or number, or a pair"):
+            with self.subTest(plan=plan), self.assertRaisesRegex(
+                TypeError, "a plan is a table's name or number, or a pair"
+            ):
                 pigrozd.join(TABLES, plan)
 
     def test_endless_plan(self):
@@ -246,12 +287,28 @@ class Refusals(unittest.TestCase):
         self.refused(8, 1, None, "leaves out table 1 and table 2", pigrozd.join, TABLES, 0)
         self.refused(8, 3, None, "names table 0 a second time", pigrozd.join, TABLES, (0, (0, 1)))
         self.refused(8, 0, None, "there are none", pigrozd.join, [], 0)
-        self.refused(9, 0, None, "the join of table 0 with table 2 and table 1 is on attribute 1, but table 2, the leftmost table on "
-                     "the right, has no attribute 1$", pigrozd.join, TABLES, (0, (2, 1)))
+        self.refused(
+            9,
+            0,
+            None,
+            "the join of table 0 with table 2 and table 1 is on attribute 1, but table 2, the leftmost table on "
+            "the right, has no attribute 1$",
+            pigrozd.join,
+            TABLES,
+            (0, (2, 1)),
+        )
 
     def test_named_tables(self):
-        self.refused(9, 0, None, "the join of frames and exposures with readings is on reading, but frames, the leftmost table on "
-                     "the left, has no reading$", pigrozd.join, NAMED, "((frames exposures) readings)")
+        self.refused(
+            9,
+            0,
+            None,
+            "the join of frames and exposures with readings is on reading, but frames, the leftmost table on "
+            "the left, has no reading$",
+            pigrozd.join,
+            NAMED,
+            "((frames exposures) readings)",
+        )
         self.refused(8, 3, None, "leaves out readings", pigrozd.join, NAMED, ("frames", "exposures"))
         self.refused(4, 0, 0, "long has 5,000 rows", pigrozd.join, {"long": {"x": range(5000)}})
 
@@ -264,19 +321,36 @@ class Refusals(unittest.TestCase):
     def test_longest_output(self):
         def pairs(m, n):
             return {"left": {"a": range(m)}, "right": {"b": range(n)}}
+
         result = pigrozd.join(pairs(512, 1024), (0, 1))
         self.assertEqual(result.rows * 2, limits.MOST_OUTPUT)
         self.assertEqual(result.columns["a"], words(*(i for i in range(512) for _ in range(1024))))
         self.assertEqual(result.columns["b"], words(*range(1024)) * 512)
-        self.refused(11, 513 * 1024, None, r"there are 525,312 results of 2 values, and the longest output \(1,048,576 words\) fits "
-                     "524,288; the join of left with right is on no attribute, so that every pair matches",
-                     pigrozd.join, pairs(513, 1024), "(left right)")
-        self.refused(11, 4294967295, None, "at least 4,294,967,295 results of 3 values",
-                     pigrozd.join, [{a: range(4096)} for a in range(3)], (0, (1, 2)))
+        self.refused(
+            11,
+            513 * 1024,
+            None,
+            r"there are 525,312 results of 2 values, and the longest output \(1,048,576 words\) fits "
+            "524,288; the join of left with right is on no attribute, so that every pair matches",
+            pigrozd.join,
+            pairs(513, 1024),
+            "(left right)",
+        )
+        self.refused(
+            11,
+            4294967295,
+            None,
+            "at least 4,294,967,295 results of 3 values",
+            pigrozd.join,
+            [{a: range(4096)} for a in range(3)],
+            (0, (1, 2)),
+        )
 
     def test_meanings(self):
         """The table of answers has the words of docs/answers."""
-        rows = re.findall(r"^\| \[(\d+)\]\(\d+\.md\) \| (.*?) \| (.*?) \|", load("docs", "answers", "README.md").decode(), re.M)
+        rows = re.findall(
+            r"^\| \[(\d+)\]\(\d+\.md\) \| (.*?) \| (.*?) \|", load("docs", "answers", "README.md").decode(), re.M
+        )
         self.assertEqual(pigrozd.MEANINGS, {int(number): (means, detail) for number, means, detail in rows})
         for number in pigrozd.MEANINGS:
             self.assertTrue(os.path.exists(path("docs", "answers", "%02d.md" % number)))
@@ -289,8 +363,11 @@ class Results(unittest.TestCase):
         self.assertEqual(pickle.loads(pickle.dumps(result)), result)
 
     def test_short_repr(self):
-        self.assertEqual(repr(pigrozd.join(NAMED, SAMPLE_PLAN)), "<Result: 4 rows, names ('frame', 'exposure', 'reading', "
-                         "'centikelvin'), Counts(entries=6, lookups=8, comparisons=19, visits=10)>")
+        self.assertEqual(
+            repr(pigrozd.join(NAMED, SAMPLE_PLAN)),
+            "<Result: 4 rows, names ('frame', 'exposure', 'reading', "
+            "'centikelvin'), Counts(entries=6, lookups=8, comparisons=19, visits=10)>",
+        )
         wide = pigrozd.join([{"x%d" % i * 50: range(700) for i in range(8)}, {"y": range(9)}], (0, 1))
         self.assertLess(len(repr(wide)), 400)
 
@@ -352,7 +429,9 @@ class NumPy(unittest.TestCase):
         self.refused(ValueError, ", row 1: 2.5 is not a whole number", numpy.array([2, 2.5]))
         self.refused(ValueError, ", row 1: nan stands for a missing value", numpy.array([2, numpy.nan]))
         self.refused(ValueError, ", row 1: None stands for a missing value", numpy.array([2, None]))
-        self.refused(ValueError, ", row 0: NaT stands for a missing value", numpy.array(["NaT"], dtype="datetime64[s]"))
+        self.refused(
+            ValueError, ", row 0: NaT stands for a missing value", numpy.array(["NaT"], dtype="datetime64[s]")
+        )
         for kind in ("float16", "float32"):
             self.refused(TypeError, ": %s does not hold every number" % kind, numpy.zeros(1, dtype=kind))
         self.refused(TypeError, ": a column holds whole numbers, not truth values", numpy.zeros(1, dtype="bool"))
@@ -400,8 +479,13 @@ class NumPy(unittest.TestCase):
 
     def test_example(self):
         environment = dict(os.environ, PYTHONPATH=os.path.join(TOP, "python"))
-        done = subprocess.run([sys.executable, path("examples", "numpy", "join_sample.py")], env=environment, cwd=TOP,
-                              stdout=subprocess.PIPE, check=True)
+        done = subprocess.run(
+            [sys.executable, path("examples", "numpy", "join_sample.py")],
+            env=environment,
+            cwd=TOP,
+            stdout=subprocess.PIPE,
+            check=True,
+        )
         self.assertEqual(done.stdout, load("examples", "numpy", "expected"))
 
 
@@ -412,7 +496,9 @@ class Pandas(unittest.TestCase):
         result = pigrozd.join(frames, SAMPLE_PLAN)
         self.assertEqual((list(result), result.names), (ROWS, ATTRIBUTES))
         table = result.to_pandas()
-        self.assertEqual((list(table.columns), [tuple(row) for row in table.values.tolist()]), (list(ATTRIBUTES), ROWS))
+        self.assertEqual(
+            (list(table.columns), [tuple(row) for row in table.values.tolist()]), (list(ATTRIBUTES), ROWS)
+        )
         self.assertEqual({str(dtype) for dtype in table.dtypes}, {"uint32"})
         self.assertEqual(list(pigrozd.join([table])), ROWS)
         self.assertEqual(list(pigrozd.join(TABLES, PLAN).to_pandas().columns), [0, 1, 2, 3])

@@ -22,5 +22,17 @@ from .messages import InputError
 from .results import Counts, Result
 
 __version__ = "0.1.0"
-__all__ = ["join", "join_file", "make_file", "call", "Answer", "Counts", "Result", "Refused", "InputError", "LibraryError",
-           "MEANINGS", "__version__"]
+__all__ = [
+    "join",
+    "join_file",
+    "make_file",
+    "call",
+    "Answer",
+    "Counts",
+    "Result",
+    "Refused",
+    "InputError",
+    "LibraryError",
+    "MEANINGS",
+    "__version__",
+]

@@ -6,6 +6,7 @@ def start() -> None:
     """Runs the command line and ends with its status. An interrupt ends it quietly, also while it is loaded."""
     try:
         from .commandline import main
+
         status = main()
     except KeyboardInterrupt:
         status = 130

@@ -1,9 +1,10 @@
-"""The answers of document 01: what each number means and what its detail is. This is the package's one table of them."""
+"""The answers of document 01: what each number means and what its detail is. The package has one table of them."""
 from typing import Dict, NamedTuple, Optional
 
 
 class Meaning(NamedTuple):
     """What an answer's number means, and what its detail is. docs/answers has a page for each number."""
+
     means: str
     detail: str
 

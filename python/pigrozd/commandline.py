@@ -9,13 +9,13 @@ from typing import Any, List, Optional, Sequence
 
 from . import __version__, commands
 from .answers import Refused
+from .commands import INTERRUPTED, REFUSED, UNUSABLE
 from .messages import InputError
 from .streams import PROGRAM, tell, write_out
 
-REFUSED, UNUSABLE, INTERRUPTED = 1, 2, 130
-
-ABOUT = """Joins tables. `pigrozd join a.csv b.csv --plan '(a b)'` joins CSV files; the other commands are for packed files:
-tables and a plan in one file, as document 01 says. `pigrozd COMMAND --help` says more of each, docs/TOOLS.md has examples."""
+ABOUT = """Joins tables. `pigrozd join a.csv b.csv --plan '(a b)'` joins CSV files; the other commands are for packed
+files: tables and a plan in one file, as document 01 says. `pigrozd COMMAND --help` says more of each, docs/TOOLS.md
+has examples."""
 
 
 def main(arguments: Optional[Sequence[str]] = None) -> int:
@@ -89,48 +89,75 @@ def add_command(subparsers: Any, function: Any, about: str) -> argparse.Argument
     """The parser of one command, which is called as the function that runs it."""
     help_line = (function.__doc__ or "").split(". ")[0].rstrip(".")
     parser: argparse.ArgumentParser = subparsers.add_parser(
-        function.__name__, help=help_line, description=about, allow_abbrev=False)
+        function.__name__, help=help_line, description=about, allow_abbrev=False
+    )
     parser.set_defaults(run=function)
     return parser
 
 
 def add_csv_options(parser: argparse.ArgumentParser) -> None:
     """The options of how CSV files are read."""
-    parser.add_argument("--attributes", metavar="NAME,NAME,..", help="attributes in the order of their numbers, from 0 on; an "
-                        "empty name leaves its number free (without this: in order of first appearance)")
+    parser.add_argument(
+        "--attributes",
+        metavar="NAME,NAME,..",
+        help="attributes in the order of their numbers, from 0 on; an "
+        "empty name leaves its number free (without this: in order of first appearance)",
+    )
     parser.add_argument("--text", metavar="NAME,..", help="these attributes hold texts and not numbers")
 
 
 def add_join(subparsers: Any) -> None:
     """pigrozd join"""
-    p = add_command(subparsers, commands.join, "Joins CSV files, or one packed file, and writes the rows as CSV. The first line "
-                    "of a CSV file has the names of its attributes; attributes with one name are joined. A table is called as "
-                    "its file, without folder and ending. Values are 0 to 4294967295. One file whose name does not end in .csv "
-                    "is a packed file.")
-    p.add_argument("files", metavar="FILE", nargs="+", help="CSV files, up to 16 of up to 4,096 rows; or a packed file")
-    p.add_argument("--plan", help="such as '(frames (exposures readings))'; needed where there are several CSV files, and in "
-                   "place of its own with a packed file")
-    p.add_argument("-o", "--output", metavar="OUT", default="-", help="the file to write (without this, or -: standard output)")
-    p.add_argument("--explain", action="store_true", help="draw the plan on standard error, with the work that was done")
+    p = add_command(
+        subparsers,
+        commands.join,
+        "Joins CSV files, or one packed file, and writes the rows as CSV. The first line "
+        "of a CSV file has the names of its attributes; attributes with one name are joined. A table is called as "
+        "its file, without folder and ending. Values are 0 to 4294967295. One file whose name does not end in .csv "
+        "is a packed file.",
+    )
+    p.add_argument(
+        "files", metavar="FILE", nargs="+", help="CSV files, up to 16 of up to 4,096 rows; or a packed file"
+    )
+    p.add_argument(
+        "--plan",
+        help="such as '(frames (exposures readings))'; needed where there are several CSV files, and in "
+        "place of its own with a packed file",
+    )
+    p.add_argument(
+        "-o", "--output", metavar="OUT", default="-", help="the file to write (without this, or -: standard output)"
+    )
+    p.add_argument(
+        "--explain", action="store_true", help="draw the plan on standard error, with the work that was done"
+    )
     add_csv_options(p)
 
 
 def add_pack(subparsers: Any) -> None:
     """pigrozd pack"""
-    p = add_command(subparsers, commands.pack, "Packs CSV files, read as `pigrozd join` reads them, and a plan into the file OUT; "
-                    "the names are kept in OUT.names. What was packed before is replaced, other files are not.")
+    p = add_command(
+        subparsers,
+        commands.pack,
+        "Packs CSV files, read as `pigrozd join` reads them, and a plan into the file OUT; "
+        "the names are kept in OUT.names. What was packed before is replaced, other files are not.",
+    )
     p.add_argument("out", metavar="OUT", help="the file to write; OUT.names gets the names")
     p.add_argument("files", metavar="CSV", nargs="+", help="the tables, in the order of their numbers")
     p.add_argument("--plan", help="such as '(frames (exposures readings))'; needed where there are several tables")
     add_csv_options(p)
     p.add_argument("--anyway", action="store_true", help="write the file though it will be refused")
-    p.add_argument("--force", action="store_true", help="replace OUT and OUT.names whatever they are; never one of the CSV files")
+    p.add_argument(
+        "--force", action="store_true", help="replace OUT and OUT.names whatever they are; never one of the CSV files"
+    )
 
 
 def add_unpack(subparsers: Any) -> None:
     """pigrozd unpack"""
-    p = add_command(subparsers, commands.unpack, "Writes the tables of a packed file as CSV files, and prints the command that "
-                    "packs them again.")
+    p = add_command(
+        subparsers,
+        commands.unpack,
+        "Writes the tables of a packed file as CSV files, and prints the command that " "packs them again.",
+    )
     p.add_argument("file", metavar="FILE")
     p.add_argument("dir", metavar="DIR", help="the folder for the CSV files; made if it is not there")
     p.add_argument("--force", action="store_true", help="replace CSV files that are there")
@@ -138,16 +165,23 @@ def add_unpack(subparsers: Any) -> None:
 
 def add_rows(subparsers: Any) -> None:
     """pigrozd rows"""
-    p = add_command(subparsers, commands.rows, "Writes what the program target/bin/pigrozd printed for FILE as CSV with the names "
-                    "of the attributes.")
+    p = add_command(
+        subparsers,
+        commands.rows,
+        "Writes what the program target/bin/pigrozd printed for FILE as CSV with the names " "of the attributes.",
+    )
     p.add_argument("file", metavar="FILE", help="the packed file that was joined")
     p.add_argument("print", metavar="PRINT", nargs="?", help="the program's print (without this: standard input)")
 
 
 def add_dump(subparsers: Any) -> None:
     """pigrozd dump"""
-    p = add_command(subparsers, commands.dump, "Shows any file: records with offsets, masks, columns, plan. The byte that an "
-                    "answer's detail points at is marked: the answer given, or else the first one from 1 to 9 that is due.")
+    p = add_command(
+        subparsers,
+        commands.dump,
+        "Shows any file: records with offsets, masks, columns, plan. The byte that an "
+        "answer's detail points at is marked: the answer given, or else the first one from 1 to 9 that is due.",
+    )
     p.add_argument("file", metavar="FILE")
     p.add_argument("--answer", metavar=("NUMBER", "DETAIL"), nargs=2, type=int, help="as in: refused NUMBER DETAIL")
     p.add_argument("--all", action="store_true", help="leave nothing of a long column out")
@@ -155,10 +189,16 @@ def add_dump(subparsers: Any) -> None:
 
 def add_plan(subparsers: Any) -> None:
     """pigrozd plan"""
-    p = add_command(subparsers, commands.plan, "Draws a plan: each join with its key, the tables that are compared and their "
-                    "rows, and why it is or is not well-behaved. The status is 1 if it is not. FILE alone: its own plan; with "
-                    "--plan another one for its tables. PLAN --tables: a plan for CSV files, or for tables to come.")
+    p = add_command(
+        subparsers,
+        commands.plan,
+        "Draws a plan: each join with its key, the tables that are compared and their "
+        "rows, and why it is or is not well-behaved. The status is 1 if it is not. FILE alone: its own plan; with "
+        "--plan another one for its tables. PLAN --tables: a plan for CSV files, or for tables to come.",
+    )
     p.add_argument("what", metavar="FILE|PLAN", help="a packed file; with --tables a plan, such as '(a (b c))'")
     p.add_argument("--plan", help="draw this plan in place of the file's own")
     p.add_argument("--tables", metavar="TABLE", nargs="+", help="CSV files, or NAME=ATTRIBUTE,ATTRIBUTE,..")
-    p.add_argument("--dot", action="store_true", help="as Graphviz DOT: pigrozd plan FILE --dot | dot -Tsvg > plan.svg")
+    p.add_argument(
+        "--dot", action="store_true", help="as Graphviz DOT: pigrozd plan FILE --dot | dot -Tsvg > plan.svg"
+    )

@@ -6,14 +6,15 @@ import shlex
 from typing import List, Optional, Sequence, Tuple
 
 from . import csvfiles, dumps, fileformat, files, plans
-from . import names as filenames
 from .answers import LAST_OF_PLANS, LAST_OF_RECORDS, MEANINGS, Refused
 from .drawing import Drawing
 from .joining import join_bytes
 from .limits import PROGRAM_BYTES, PROGRAM_WORDS
 from .messages import InputError, count
-from .names import Names
+from .names import NAMES_ENDING, Names, digest, digest_in, fault_of_table_name, load_beside, names_beside, names_text
 from .streams import standard_input, tell, write_out
+
+DONE, REFUSED, UNUSABLE, INTERRUPTED = 0, 1, 2, 130  # how a command ends
 
 Arguments = argparse.Namespace
 
@@ -22,7 +23,12 @@ Arguments = argparse.Namespace
 def load_packed(path: str) -> Tuple[bytes, Names]:
     """The bytes of a packed file, and the names beside it."""
     data = files.load(path)
-    return data, filenames.beside(path, data, lambda text: tell("warning: " + text))
+    return data, names_beside(path, data, warn)
+
+
+def warn(text: str) -> None:
+    """Tells what does not end a command."""
+    tell("warning: " + text)
 
 
 def is_packed(paths: Sequence[str]) -> bool:
@@ -39,7 +45,7 @@ def refused_file(path: str, refused: Refused, plan: Optional[str] = None) -> int
         shown_by = ["plan", path, "--plan", plan] if plan is not None else ["dump", path]
         hint = "; pigrozd %s shows it" % " ".join(map(shlex.quote, shown_by))
     tell("%s: %s%s" % (path, refused, hint))
-    return 1
+    return REFUSED
 
 
 def load_inputs(a: Arguments) -> Tuple[bytes, Names]:
@@ -53,7 +59,7 @@ def load_inputs(a: Arguments) -> Tuple[bytes, Names]:
         file = fileformat.read(data, names)
         if file.fault and file.fault.number <= LAST_OF_RECORDS:
             raise file.fault
-        data = data[:file.plan_at] + fileformat.plan_record(plans.code_of(a.plan, table_names(file, names)))
+        data = data[: file.plan_at] + fileformat.plan_record(plans.code_of(a.plan, table_names(file, names)))
     return data, names
 
 
@@ -76,7 +82,7 @@ def join(a: Arguments) -> int:
 def join_and_write(a: Arguments) -> int:
     """Joins what the arguments name, and writes the rows."""
     if a.output != "-":
-        files.refuse_target(a.output, a.files + [path + filenames.ENDING for path in a.files])
+        files.refuse_target(a.output, a.files + [path + NAMES_ENDING for path in a.files])
     data, names = load_inputs(a)
     file = fileformat.read(data, names)
     drawing = Drawing(file.plan, file.tables, names) if a.explain and file.plan else None
@@ -85,18 +91,18 @@ def join_and_write(a: Arguments) -> int:
     result = join_bytes(data, names)
     if drawing:
         tell("\n".join([""] + drawing.work(result)), prefix="")
-    text = csvfiles.columns_text([(int(a), column) for a, column in result.columns.items()], names)
+    text = csvfiles.columns_text([(int(attribute), values) for attribute, values in result.columns.items()], names)
     if a.output == "-":
         write_out(text)
     else:
         files.save([(a.output, text.encode("utf-8"))])
-    return 0
+    return DONE
 
 
 # ---- pack
 def pack(a: Arguments) -> int:
     """Packs CSV files into a file of document 01, with its names beside it."""
-    named = a.out + filenames.ENDING
+    named = a.out + NAMES_ENDING
     for path in (a.out, named):
         files.refuse_target(path, a.files)
     if not a.force:
@@ -106,27 +112,31 @@ def pack(a: Arguments) -> int:
     file = fileformat.read(data, names)
     if file.fault and not a.anyway:
         tell("%s; nothing is written (--anyway writes it, pigrozd plan draws it)" % file.fault)
-        return 1
-    files.save([(a.out, data), (named, filenames.to_text(names, data).encode("utf-8"))])
-    write_out("%s: %s, %s, %s\n" % (a.out, count(len(data), "byte"), count(len(file.tables), "table"),
-                                    count(file.row_count(), "row")))
+        return REFUSED
+    files.save([(a.out, data), (named, names_text(names, data).encode("utf-8"))])
+    write_out(
+        "%s: %s, %s, %s\n"
+        % (a.out, count(len(data), "byte"), count(len(file.tables), "table"), count(file.row_count(), "row"))
+    )
     note = program_refuses(file)
     if note:
         tell("note: " + note)
-    return 0
+    return DONE
 
 
 def refuse_foreign(out: str) -> None:
-    """Refuses to replace what pack did not write: OUT and OUT.names are replaced if the digest in OUT.names is OUT's."""
-    named = filenames.load_beside(out)
+    """Refuses to replace what pack did not write. It wrote OUT and OUT.names if the digest in OUT.names is OUT's."""
+    named = load_beside(out)
     if named is None:
         if os.path.exists(out) and os.path.getsize(out) > 0:
             raise InputError("%s is there and was not packed here; it is left as it is (--force replaces it)" % out)
         return
-    digest = filenames.digest(files.load(out)) if os.path.exists(out) else ""
-    if filenames.digest_in(named.decode("utf-8", "replace")) != digest:
-        raise InputError("%s%s is there and was not packed with %s; it is left as it is (--force replaces it)" % (
-            out, filenames.ENDING, out))
+    written = digest(files.load(out)) if os.path.exists(out) else ""
+    if digest_in(named.decode("utf-8", "replace")) != written:
+        raise InputError(
+            "%s%s is there and was not packed with %s; it is left as it is (--force replaces it)"
+            % (out, NAMES_ENDING, out)
+        )
 
 
 def program_refuses(file: fileformat.File) -> Optional[str]:
@@ -137,7 +147,8 @@ def program_refuses(file: fileformat.File) -> Optional[str]:
         return "the program says 13 to a file of more than 65,536 bytes; pigrozd join takes it"
     need = plans.words_needed(file.plan, file.tables) if file.plan else 0
     if need > PROGRAM_WORDS:
-        return "the program says 10, it lends 16,384 words of scratch; pigrozd join takes the file with {:,}".format(need)
+        told = "the program says 10, it lends 16,384 words of scratch; pigrozd join takes the file with {:,}"
+        return told.format(need)
     return None
 
 
@@ -151,22 +162,24 @@ def unpack(a: Arguments) -> int:
     paths = [os.path.join(a.dir, name + csvfiles.ENDING) for name in table_names(file, names)]
     texts = [csvfiles.table_text(file, table, names) for table in file.tables]
     for path in paths:
-        files.refuse_target(path, [a.file, a.file + filenames.ENDING])
+        files.refuse_target(path, [a.file, a.file + NAMES_ENDING])
         if os.path.exists(path) and not a.force:
             raise InputError("%s is there already (--force replaces it)" % path)
     os.makedirs(a.dir, exist_ok=True)
     files.save([(path, text.encode("utf-8")) for path, text in zip(paths, texts)])
     if file.fault or not file.plan:
         tell("%s: the tables are written, but the plan is bad: %s" % (a.file, file.fault))
-        return 1
+        return REFUSED
     write_out(command_to_pack(a.file, file, names, paths) + "\n")
-    return 0
+    return DONE
 
 
 def command_to_pack(out: str, file: fileformat.File, names: Names, paths: Sequence[str]) -> str:
     """The command that makes the same file of the CSV files."""
     used = plans.width(file.tables)
-    attributes = csvfiles.csv_line([names.attribute(n) if n in used else "" for n in range(max(used, default=-1) + 1)])
+    attributes = csvfiles.csv_line(
+        [names.attribute(n) if n in used else "" for n in range(max(used, default=-1) + 1)]
+    )
     plan = plans.to_text(file.plan, names) if file.plan else ""
     command = ["pigrozd", "pack", out, "--plan", plan, "--attributes", attributes]
     texts = [names.attribute(n) for n in used if n in names.texts]
@@ -186,36 +199,40 @@ def rows(a: Arguments) -> int:
     except Refused as refused:
         answer = "%d %d" % (refused.number, refused.detail)
         tell("%s: %s; pigrozd dump %s --answer %s shows the place" % (where, refused, shlex.quote(a.file), answer))
-        return 1
+        return REFUSED
     if file.fault:
         raise InputError("%s: %s; so it is not the file of this print" % (a.file, file.fault))
     attributes = plans.width(file.tables)
     for at, row in enumerate(found, 2):
         if len(row) != len(attributes):
-            raise InputError("%s, line %d: %s, but a result of %s has %d" % (
-                where, at, count(len(row), "value"), a.file, len(attributes)))
+            raise InputError(
+                "%s, line %d: %s, but a result of %s has %d"
+                % (where, at, count(len(row), "value"), a.file, len(attributes))
+            )
     columns = [(n, [row[place] for row in found]) for place, n in enumerate(attributes)]
     write_out(csvfiles.columns_text(columns, names))
-    return 0
+    return DONE
 
 
 def printed_rows(text: bytes, where: str) -> List[List[int]]:
     """The rows in what the program printed."""
     lines = text.decode("ascii", "replace").splitlines() or [""]
     refused = re.fullmatch("refused ([0-9]{1,2}) ([0-9]{1,20})", lines[0])
-    if refused and 0 < int(refused[1]) < len(MEANINGS):
+    if refused and int(refused[1]) in MEANINGS and int(refused[1]) != 0:
         raise Refused(int(refused[1]), int(refused[2]), "so the program said")
     head = re.fullmatch("rows ([0-9]{1,7})", lines[0])
     if not head:
         raise InputError("%s, line 1: expected rows N or refused NUMBER DETAIL, found %r" % (where, lines[0][:80]))
     out = int(head[1])
-    body, tail = lines[1:1 + out], lines[1 + out:]
+    body, tail = lines[1 : 1 + out], lines[1 + out :]
     for at, line in enumerate(body, 2):
         if not re.fullmatch("[0-9]{1,10}( [0-9]{1,10})*", line):
             raise InputError("%s, line %d: expected a row, found %r" % (where, at, line[:80]))
     if len(tail) != 1 or not re.fullmatch("steps( [0-9]+){4}", tail[0]):
-        raise InputError("%s: %s and then steps expected behind line 1, found %s" % (
-            where, count(out, "row"), count(len(lines) - 1, "line")))
+        raise InputError(
+            "%s: %s and then steps expected behind line 1, found %s"
+            % (where, count(out, "row"), count(len(lines) - 1, "line"))
+        )
     return [list(map(int, line.split())) for line in body]
 
 
@@ -224,15 +241,16 @@ def dump(a: Arguments) -> int:
     """Shows a packed file, whole or bad, record by record."""
     if a.answer and not (a.answer[0] in MEANINGS and a.answer[1] >= 0):
         raise InputError("--answer %d %d: there is no such answer (docs/answers/README.md)" % tuple(a.answer))
+    data = files.load(a.file)
     try:
-        data, names = load_packed(a.file)
-    except InputError as error:  # of the names; the file is shown all the same
-        tell("warning: %s; names are left out" % error)
-        data, names = files.load(a.file), Names()
+        names = names_beside(a.file, data, warn)
+    except InputError as error:  # the file is shown all the same
+        warn("%s; names are left out" % error)
+        names = Names()
     file = fileformat.read(data, names)
     answer = (a.answer[0], a.answer[1]) if a.answer else None
     write_out("\n".join(dumps.dump(a.file, file, names, a.all, answer)) + "\n")
-    return 0
+    return DONE
 
 
 # ---- plan
@@ -249,7 +267,7 @@ def plan(a: Arguments) -> int:
             raise
         return refused_file(a.what, refused, a.plan)
     write_out("\n".join(drawing.dot() if a.dot else drawing.tree()) + "\n")
-    return 1 if drawing.broken() else 0
+    return REFUSED if drawing.broken() else DONE
 
 
 def drawing_of_file(path: str, text: Optional[str]) -> Drawing:
@@ -279,7 +297,7 @@ def given_table(text: str) -> Tuple[csvfiles.Sheet, Optional[int]]:
         return sheet, len(sheet.rows)
     sheet = csvfiles.Sheet(text)
     sheet.name = found[1]
-    fault = filenames.fault_of_table_name(sheet.name)
+    fault = fault_of_table_name(sheet.name)
     if fault:
         raise InputError("--tables %s: %s" % (text, fault))
     csvfiles.read_header(sheet, 1, csvfiles.name_list(found[2], "--tables"))

@@ -15,11 +15,11 @@ from .names import Names, fault_of_attribute_name, fault_of_table_name
 from .values import LARGEST, value_of_text
 
 ENDING = ".csv"
-MOST_LINE = 2 ** 20  # letters of a line that are read
+MOST_LINE = 2**20  # letters of a line that are read
 
 
 class Sheet:
-    """A CSV file: the table's name, the names of its attributes, its rows as texts with the lines that they begin on."""
+    """A CSV file: the table's name, the names of its attributes, its rows as texts and the lines where they begin."""
 
     def __init__(self, path: str) -> None:
         self.path = path
@@ -98,10 +98,15 @@ def read_header(sheet: Sheet, line: int, cells: Sequence[str]) -> None:
 def read_row(sheet: Sheet, line: int, cells: List[str]) -> None:
     """Takes one row into the sheet."""
     if len(cells) != len(sheet.header):
-        raise sheet.error(line, None, "%s, but the first line names %s" % (
-            count(len(cells), "value"), count(len(sheet.header), "attribute")))
+        raise sheet.error(
+            line,
+            None,
+            "%s, but the first line names %s" % (count(len(cells), "value"), count(len(sheet.header), "attribute")),
+        )
     if len(sheet.rows) == MOST_ROWS:
-        raise sheet.error(line, None, "a table has at most {:,} rows, and this is one more; split the file".format(MOST_ROWS))
+        raise sheet.error(
+            line, None, "a table has at most {:,} rows, and this is one more; split the file".format(MOST_ROWS)
+        )
     sheet.rows.append(cells)
     sheet.lines.append(line)
 
@@ -139,8 +144,10 @@ def number_attributes(sheets: Sequence[Sheet], given: Optional[str] = None) -> D
                     raise sheet.error(sheet.header_line, column, "not among --attributes " + given)
                 numbers[len(numbers)] = name
     if max(numbers, default=0) >= ATTRIBUTE_NUMBERS:
-        raise InputError("a file has at most %d attributes, these have %d: %s" % (
-            ATTRIBUTE_NUMBERS, max(numbers) + 1, ", ".join(numbers.values())))
+        raise InputError(
+            "a file has at most %d attributes, these have %d: %s"
+            % (ATTRIBUTE_NUMBERS, max(numbers) + 1, ", ".join(numbers.values()))
+        )
     return numbers
 
 
@@ -163,8 +170,9 @@ def attributes_of(sheet: Sheet, names: Names) -> List[int]:
 
 
 # ---- packing
-def pack(sheets: Sequence[Sheet], plan: Optional[str], attributes: Optional[str] = None,
-         texts: Optional[str] = None) -> Tuple[bytes, Names]:
+def pack(
+    sheets: Sequence[Sheet], plan: Optional[str], attributes: Optional[str] = None, texts: Optional[str] = None
+) -> Tuple[bytes, Names]:
     """The bytes of a file with these tables and this plan, and its names. Attributes named in `texts` hold texts."""
     names = names_of(sheets, attributes)
     for text in name_list(texts, "--text") if texts else []:
@@ -173,8 +181,10 @@ def pack(sheets: Sequence[Sheet], plan: Optional[str], attributes: Optional[str]
             raise InputError("--text %s: no attribute is called %s" % (texts, text))
         names.texts[numbers[0]] = {}
     if plan is None and len(sheets) > 1:
-        raise InputError("--plan is missing: it says how %s are joined, such as '(%s %s)'" % (
-            count(len(sheets), "table"), sheets[0].name, sheets[1].name))
+        raise InputError(
+            "--plan is missing: it says how %s are joined, such as '(%s %s)'"
+            % (count(len(sheets), "table"), sheets[0].name, sheets[1].name)
+        )
     code = plans.code_of(0 if plan is None else plan, [sheet.name for sheet in sheets])
     return b"".join(record_of(sheet, names) for sheet in sheets) + plan_record(code), names
 
@@ -248,6 +258,8 @@ def shown_values(values: Sequence[int], attribute: int, names: Names) -> Sequenc
         return values
     for value in values:
         if value not in texts:
-            raise InputError("value %d of attribute %d %s stands for no text in the file of names" % (
-                value, attribute, names.attribute(attribute)))
+            raise InputError(
+                "value %d of attribute %d %s stands for no text in the file of names"
+                % (value, attribute, names.attribute(attribute))
+            )
     return [texts[value] for value in values]

@@ -35,8 +35,11 @@ class Drawing:
             verdict = "well-behaved: both have " + key
         else:
             verdict = "well-behaved: no attribute is on both sides"
-        return ["join on %s, byte %d of the plan" % (key or "nothing (every pair matches)", join.index),
-                " looked up in ".join("%s (%s)" % (self.names.table(t), self.rows(t)) for t in leftmost), verdict]
+        return [
+            "join on %s, byte %d of the plan" % (key or "nothing (every pair matches)", join.index),
+            " looked up in ".join("%s (%s)" % (self.names.table(t), self.rows(t)) for t in leftmost),
+            verdict,
+        ]
 
     def broken(self) -> List[plans.Join]:
         """The joins that are not well-behaved."""
@@ -46,8 +49,9 @@ class Drawing:
         """Whether the plan is well-behaved, what scratch its join needs, what a result is."""
         broken = self.broken()
         if broken:
-            return ["answer 9, detail %d: %s at %s" % (
-                broken[0].index, MEANINGS[9].means, count(len(broken), "join"))]
+            return [
+                "answer 9, detail %d: %s at %s" % (broken[0].index, MEANINGS[9].means, count(len(broken), "join"))
+            ]
         lines = ["the plan is well-behaved"]
         if all(t.rows is not None for t in self.tables):
             lines.append("scratch needed: " + count(plans.words_needed(self.plan, self.tables), "word"))

@@ -17,8 +17,9 @@ Describe = Callable[[int, int], str]  # what the bytes from one offset to anothe
 class Dump:
     """The lines of a dump, as they are made. `mark` is the offset to mark, `label` what is written there."""
 
-    def __init__(self, file: File, names: Names, everything: bool = False, mark: Optional[int] = None,
-                 label: str = "") -> None:
+    def __init__(
+        self, file: File, names: Names, everything: bool = False, mark: Optional[int] = None, label: str = ""
+    ) -> None:
         self.file, self.names, self.everything = file, names, everything
         self.mark, self.label = mark, label
         self.lines: List[str] = []
@@ -34,7 +35,7 @@ class Dump:
             if i > before + 1:
                 self.lines.append("          ..  %s left out" % count(starts[i] - starts[before + 1], "byte"))
             before, stop = i, min(starts[i] + per_line, end)
-            octets = " ".join("%02x" % b for b in self.file.data[starts[i]:stop])
+            octets = " ".join("%02x" % b for b in self.file.data[starts[i] : stop])
             self.lines.append("%8d  %-47s  %s" % (starts[i], octets, describe(starts[i], stop)))
             if i == marked and self.mark is not None:
                 self.point(3 * (self.mark - starts[i]))
@@ -51,8 +52,11 @@ class Dump:
         """Bytes that were not read, with their letters."""
         if at < len(self.file.data):
             self.title(at, what)
-            self.field(at, len(self.file.data), lambda a, b: "".join(
-                chr(c) if 32 <= c < 127 else "." for c in self.file.data[a:b]))
+            self.field(
+                at,
+                len(self.file.data),
+                lambda a, b: "".join(chr(c) if 32 <= c < 127 else "." for c in self.file.data[a:b]),
+            )
 
     # ---- records
     def attribute(self, number: int) -> str:
@@ -79,6 +83,7 @@ class Dump:
 
     def values_of(self, attribute: int, start: int) -> Describe:
         """What describes the values of a column that begins at an offset."""
+
         def describe(a: int, b: int) -> str:
             values = [str(fileformat.number_at(self.file.data, i)) for i in range(a, b - 3, 4)]
             first = (a - start) // 4
@@ -86,6 +91,7 @@ class Dump:
             where = "row %d" % first if first >= last else "rows %d to %d" % (first, last)
             cut = ["cut"] if (b - a) % 4 else []
             return "%s, %s: %s" % (self.names.attribute(attribute), where, " ".join(values + cut))
+
         return describe
 
     def plan(self, at: int) -> int:
@@ -101,7 +107,7 @@ class Dump:
 
     def record_at_fault(self, at: int) -> None:
         """The record at an offset, which is at fault, as far as it can be read."""
-        mark = self.file.data[at:at + 2]
+        mark = self.file.data[at : at + 2]
         if mark == fileformat.TABLE_MARK and self.file.fault and self.file.fault.number != 5:
             self.rest(self.table(at, "table %d, not taken" % len(self.file.tables)), "not read")
         elif mark == fileformat.PLAN_MARK:
@@ -162,16 +168,25 @@ def byte_in_words(byte: int, join: Optional[plans.Join], file: File, names: Name
 
 def summary(path: str, file: File, names: Names) -> List[str]:
     """The first lines of a dump: the file, and its answer as far as 9."""
-    first = "%s: %s, %s, %s" % (path, count(len(file.data), "byte"), count(len(file.tables), "table"),
-                                count(file.row_count(), "row"))
+    first = "%s: %s, %s, %s" % (
+        path,
+        count(len(file.data), "byte"),
+        count(len(file.tables), "table"),
+        count(file.row_count(), "row"),
+    )
     if file.plan:
         first += ", plan " + plans.to_text(file.plan, names)
     lines = [first]
     if file.fault:
         lines.append(str(file.fault))
     elif file.plan:
-        lines.append("within the rules: no answer from 1 to 9 is due; the scratch needed is %s, a result has %s" % (
-            count(plans.words_needed(file.plan, file.tables), "word"), count(len(plans.width(file.tables)), "value")))
+        lines.append(
+            "within the rules: no answer from 1 to 9 is due; the scratch needed is %s, a result has %s"
+            % (
+                count(plans.words_needed(file.plan, file.tables), "word"),
+                count(len(plans.width(file.tables)), "value"),
+            )
+        )
     if len(file.data) > PROGRAM_BYTES:
         lines.append("the program says 13: it takes files of at most 65,536 bytes")
     return lines
@@ -191,8 +206,9 @@ def doubt(file: File, number: int, detail: int) -> Optional[str]:
     return None
 
 
-def dump(path: str, file: File, names: Names, everything: bool = False,
-         answer: Optional[Tuple[int, int]] = None) -> List[str]:
+def dump(
+    path: str, file: File, names: Names, everything: bool = False, answer: Optional[Tuple[int, int]] = None
+) -> List[str]:
     """The lines of a dump. The byte that the answer points at is marked; without one, that of the file's own fault."""
     lines = summary(path, file, names)
     if answer is None:

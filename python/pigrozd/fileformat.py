@@ -1,4 +1,7 @@
-"""A file of document 01: its records, read as far as answer 9 goes, and written. The package's one reader and one writer."""
+"""A file of document 01: its records, read as far as answer 9 goes, and written.
+
+This is the package's one reader and its one writer of the format.
+"""
 import struct
 from typing import List, Optional, Sequence, Tuple
 
@@ -35,8 +38,8 @@ class Table(plans.Shape):
 class File:
     """What is in a file's bytes.
 
-    `fault` is the first refusal from 1 to 9 that is due, or None. `plan_at` is the offset of a plan record that is whole,
-    `code` has its plan's bytes, and `plan` is its tree if it is spelled right and names each table once."""
+    `fault` is the first refusal from 1 to 9 that is due, or None. `plan_at` is the offset of a plan record that is
+    whole, `code` has its plan's bytes, and `plan` is its tree if it is spelled right and names each table once."""
 
     def __init__(self, data: bytes) -> None:
         self.data = data
@@ -59,7 +62,7 @@ class File:
 # ---- reading
 def number_at(data: bytes, at: int) -> int:
     """The number in the 4 bytes at an offset."""
-    return int.from_bytes(data[at:at + 4], "little")
+    return int.from_bytes(data[at : at + 4], "little")
 
 
 def attributes_of(mask: int) -> List[int]:
@@ -83,13 +86,15 @@ def read_tables(file: File, names: Names) -> Optional[Refused]:
     """Reads the tables before the plan record. The refusal from 1 to 5 that is due, or None."""
     at = 0
     while True:
-        left, mark = len(file.data) - at, file.data[at:at + 2]
+        left, mark = len(file.data) - at, file.data[at : at + 2]
         if left < 2:
             return Refused(1, at, "the file ends before a plan" if left == 0 else "the last byte is half a mark")
         if mark == PLAN_MARK:
             return None
         if mark != TABLE_MARK:
-            return Refused(2, at, "at offset %d stands %02x %02x, neither 54 42 (a table) nor 50 4c (the plan)" % (at, *mark))
+            return Refused(
+                2, at, "at offset %d stands %02x %02x, neither 54 42 (a table) nor 50 4c (the plan)" % (at, *mark)
+            )
         if len(file.tables) == MOST_TABLES:
             return Refused(5, at, "a file has at most %d tables" % MOST_TABLES, MOST_TABLES)
         fault = read_table(file, at, names)
@@ -111,7 +116,9 @@ def read_table(file: File, at: int, names: Names) -> Optional[Refused]:
         return Refused(4, at, "%s has %s" % (name, count(rows, "row")), number)
     table = Table(at, attributes, rows)
     if table.end() > len(file.data):
-        return Refused(1, at, "the columns of %s end at offset %d, the file at %d" % (name, table.end(), len(file.data)))
+        return Refused(
+            1, at, "the columns of %s end at offset %d, the file at %d" % (name, table.end(), len(file.data))
+        )
     file.tables.append(table)
     return None
 
@@ -126,7 +133,7 @@ def read_plan_record(file: File) -> Optional[Refused]:
     if left < PLAN_HEAD + length:
         return Refused(1, at, "the plan is cut: it says %s, %d are there" % (count(length, "byte"), left - PLAN_HEAD))
     end = at + PLAN_HEAD + length
-    file.plan_at, file.code = at, data[at + PLAN_HEAD:end]
+    file.plan_at, file.code = at, data[at + PLAN_HEAD : end]
     if end < len(data):
         return Refused(6, end, "%s behind it" % count(len(data) - end, "byte"))
     return None

@@ -11,7 +11,7 @@ from typing import BinaryIO, Iterable, List, Tuple
 from .messages import InputError
 
 
-MOST_READ = 2 ** 26  # bytes of an input that are read; document 01's longest file has 2,097,570
+MOST_READ = 2**26  # bytes of an input that are read; document 01's longest file has 2,097,570
 
 
 def load(path: str) -> bytes:

@@ -3,7 +3,6 @@ import os
 import warnings
 from typing import Any, Dict, Optional, Tuple
 
-from . import names as filenames
 from . import plans
 from .answers import LAST_OF_PLANS, Refused
 from .fileformat import File, plan_record, read
@@ -11,7 +10,7 @@ from .files import load
 from .library import Answer, bytes_of, call_with_enough
 from .limits import HIGHEST_COUNT, MOST_OUTPUT
 from .messages import InputError, count
-from .names import Names
+from .names import Names, names_beside
 from .results import Key, Result
 from .tables import records_of
 
@@ -19,10 +18,12 @@ from .tables import records_of
 def join(tables: Any, plan: Any = None) -> Result:
     """Joins tables by a plan: a Result, or Refused.
 
-    tables: a list of tables, or a mapping of table names to tables. A table is a mapping of attributes to columns, a pandas
-    DataFrame, a NumPy structured array, or a Result. An attribute is a name or a number from 0 to 31, in all tables alike.
-    plan: a table's name or number, or a pair of plans, such as ("frames", ("exposures", "readings")); or a text, such as
-    "(frames (exposures readings))"; or the plan's bytes, as a file has them. It may be left out where there is one table.
+    tables: a list of tables, or a mapping of table names to tables. A table is a mapping of attributes to columns, a
+    pandas DataFrame, a NumPy structured array, or a Result. An attribute is a name or a number from 0 to 31, in all
+    tables alike.
+
+    plan: a table's name or number, or a pair of plans, such as ("frames", ("exposures", "readings")); or a text, such
+    as "(frames (exposures readings))"; or the plan's bytes, as a file has them. With one table it may be left out.
     """
     data, names, keys = packed(tables, plan)
     return join_bytes(data, names, keys)
@@ -41,7 +42,7 @@ def join_file(file: Any) -> Result:
         return join_bytes(bytes_of(file), Names())
     path = os.fsdecode(file)
     data = load(path)
-    names = filenames.beside(path, data, lambda text: warnings.warn(text, stacklevel=4))
+    names = names_beside(path, data, lambda text: warnings.warn(text, stacklevel=4))
     if not names.attributes:
         return join_bytes(data, names)
     return join_bytes(data, names, {a: names.attribute(a) for a in plans.width(read(data).tables)})
@@ -52,7 +53,9 @@ def packed(tables: Any, plan: Any) -> Tuple[bytes, Names, Dict[int, Key]]:
     records, names, keys = records_of(tables)
     if plan is None:
         if len(names.tables) != 1:
-            raise InputError("a plan is wanted, such as (0, 1) or '(a b)': there are %s" % count(len(names.tables), "table"))
+            raise InputError(
+                "a plan is wanted, such as (0, 1) or '(a b)': there are %s" % count(len(names.tables), "table")
+            )
         plan = 0
     code = plans.code_of(plan, [names.tables[number] for number in range(len(names.tables))])
     return records + plan_record(code), names, keys
@@ -66,7 +69,7 @@ def join_bytes(data: bytes, names: Names, keys: Optional[Dict[int, Key]] = None)
         raise refusal(answer, file, names)
     attributes = plans.width(file.tables)
     end = answer.rows * len(attributes)
-    columns = {keys[a] if keys else a: output[place:end:len(attributes)] for place, a in enumerate(attributes)}
+    columns = {keys[a] if keys else a: output[place : end : len(attributes)] for place, a in enumerate(attributes)}
     return Result(columns, answer.rows, answer.entries, answer.lookups, answer.comparisons, answer.visits)
 
 
@@ -85,7 +88,12 @@ def too_many(results: int, file: File, names: Names) -> str:
     """How many results there are and how many fit; and which joins match every pair, as these make many."""
     values = len(plans.width(file.tables))
     why = "there are {}{:,} results of {}, and the longest output ({:,} words) fits {:,}".format(
-        "at least " if results == HIGHEST_COUNT else "", results, count(values, "value"), MOST_OUTPUT, MOST_OUTPUT // values)
+        "at least " if results == HIGHEST_COUNT else "",
+        results,
+        count(values, "value"),
+        MOST_OUTPUT,
+        MOST_OUTPUT // values,
+    )
     for join in plans.joins_of(file.plan) if file.plan else []:
         if not plans.key(join, file.tables):
             why += "; the join of %s is on no attribute, so that every pair matches" % plans.sides_of(join, names)

@@ -3,7 +3,7 @@ import array
 import ctypes
 import functools
 import os
-from typing import Any, Iterator, NamedTuple, Tuple
+from typing import Any, NamedTuple, Tuple
 
 from .fileformat import read
 from .limits import MOST_OUTPUT
@@ -20,6 +20,7 @@ class LibraryError(OSError):
 
 class Answer(NamedTuple):
     """What the library answers: the seven numbers of struct pigrozd_answer."""
+
     number: int
     detail: int
     rows: int
@@ -31,39 +32,41 @@ class Answer(NamedTuple):
 
 class AnswerStruct(ctypes.Structure):
     """struct pigrozd_answer of include/pigrozd.h."""
+
     _fields_ = [(name, ctypes.c_uint64) for name in Answer._fields]
 
 
 # ---- loading
-def places() -> Iterator[str]:
-    """Where the library may be: where PIGROZD_LIBRARY says; else in this package, in the repository, on the system."""
+def place() -> str:
+    """Where the library is: where PIGROZD_LIBRARY says; else in this package, in the repository, or on the system."""
     named = os.environ.get(VARIABLE)
     if named:
-        yield named
-        return
+        return named
     package = os.path.dirname(os.path.abspath(__file__))
     repository = os.path.dirname(os.path.dirname(package))
     for path in (os.path.join(package, FILE_NAME), os.path.join(repository, "target", "lib", FILE_NAME)):
         if os.path.exists(path):
-            yield path
-    yield FILE_NAME
+            return path
+    return FILE_NAME
 
 
 @functools.lru_cache(maxsize=None)
 def library() -> Any:
     """The loaded library."""
-    path = next(places())
+    path = place()
     try:
         loaded = ctypes.CDLL(path)
     except OSError as error:
-        raise LibraryError("the library cannot be loaded (make lib builds it, %s may name it): %s" % (
-            VARIABLE, error)) from None
+        raise LibraryError(
+            "the library cannot be loaded (make lib builds it, %s may name it): %s" % (VARIABLE, error)
+        ) from None
     words = ctypes.POINTER(ctypes.c_uint32)
     try:
         function = loaded.pigrozd_join
     except AttributeError:
-        raise LibraryError("%s is not Pigrozd's library: it has no function pigrozd_join (%s names the library)" % (
-            path, VARIABLE)) from None
+        raise LibraryError(
+            "%s is not Pigrozd's library: it has no function pigrozd_join (%s names the library)" % (path, VARIABLE)
+        ) from None
     function.argtypes = [ctypes.c_char_p, ctypes.c_size_t, words, ctypes.c_size_t, words, ctypes.c_size_t]
     function.restype = AnswerStruct
     return loaded
@@ -93,8 +96,9 @@ def lent(buffer: Any) -> Tuple[Any, int]:
 
 
 def call(file: Any, scratch: Any, output: Any) -> Answer:
-    """One call of the library: the bytes of a file, and two writable buffers of 32-bit words, such as array.array('I').
-    Gives the Answer, refusals too."""
+    """One call of the library: its Answer, refusals too.
+
+    It is given the bytes of a file and two writable buffers of 32-bit words, such as array.array('I')."""
     data = bytes_of(file)
     scratch_words, scratch_count = lent(scratch)
     output_words, output_count = lent(output)

@@ -18,4 +18,4 @@ def listed(names: Sequence[str], last: str = "and") -> str:
 
 def shortened(text: str, most: int = 80) -> str:
     """A text for an error, cut where it is long."""
-    return text if len(text) <= most else text[:most - 2] + ".."
+    return text if len(text) <= most else text[: most - 2] + ".."

@@ -5,8 +5,8 @@
     table 0 frames      table 0 is called frames
     text 1 7 dark       value 7 of attribute 1 stands for the text dark
 
-A name goes on to the end of its line. Lines that begin with # and empty lines say nothing. Without a digest the names are
-taken as they are: so they can be written by hand. With one that is not the file's, all of them are left out.
+A name goes on to the end of its line. Lines that begin with # and empty lines say nothing. Without a digest the names
+are taken as they are: so they can be written by hand. With one that is not the file's, all of them are left out.
 """
 import hashlib
 import os
@@ -18,13 +18,13 @@ from .limits import ATTRIBUTE_NUMBERS, MOST_TABLES
 from .values import LARGEST
 from .messages import InputError
 
-ENDING = ".names"
+NAMES_ENDING = ".names"
 LINE = re.compile(r"(?:(?P<table>table) |text (?P<text>[0-9]{1,2}) )?(?P<number>[0-9]{1,10}) (?P<name>.*)")
 DIGEST_LINE = re.compile(r"^sha256 ([0-9a-f]{64})\r?$", re.MULTILINE)
 
 
 class Names:
-    """The names of a file: of attributes and of tables by number, and the texts that values stand for, by attribute."""
+    """The names in a file: of attributes and tables by number, and the texts that values stand for, by attribute."""
 
     def __init__(self) -> None:
         self.attributes: Dict[int, str] = {}
@@ -79,16 +79,18 @@ def digest_in(text: str) -> Optional[str]:
     return found[1] if found else None
 
 
-def to_text(names: Names, data: bytes) -> str:
+def names_text(names: Names, data: bytes) -> str:
     """The file of names of the file with these bytes."""
     lines = ["sha256 " + digest(data)]
     lines += ["%d %s" % item for item in sorted(names.attributes.items())]
     lines += ["table %d %s" % item for item in sorted(names.tables.items())]
-    lines += ["text %d %d %s" % (a, v, text) for a in sorted(names.texts) for v, text in sorted(names.texts[a].items())]
+    lines += [
+        "text %d %d %s" % (a, v, text) for a in sorted(names.texts) for v, text in sorted(names.texts[a].items())
+    ]
     return "".join(line + "\n" for line in lines)
 
 
-def from_text(text: str, path: str) -> Names:
+def names_in(text: str, path: str) -> Names:
     """The names in a file of names."""
     names = Names()
     seen: Set[Tuple[int, str]] = set()
@@ -130,10 +132,10 @@ def read_line(line: str, names: Names, seen: Set[Tuple[int, str]]) -> None:
 
 def load_beside(path: str) -> Optional[bytes]:
     """The bytes of FILE.names for the file at this path, or None if there is no such file."""
-    return load(path + ENDING) if os.path.isfile(path + ENDING) else None
+    return load(path + NAMES_ENDING) if os.path.isfile(path + NAMES_ENDING) else None
 
 
-def beside(path: str, data: bytes, warn: Callable[[str], None]) -> Names:
+def names_beside(path: str, data: bytes, warn: Callable[[str], None]) -> Names:
     """The names in FILE.names for the file at this path with these bytes; none if there is no such file.
 
     Names that belong to another file are left out, and `warn` is told so."""
@@ -143,9 +145,11 @@ def beside(path: str, data: bytes, warn: Callable[[str], None]) -> Names:
     try:
         text = loaded.decode("utf-8-sig")
     except UnicodeDecodeError:
-        raise InputError("%s%s: not UTF-8 text" % (path, ENDING)) from None
+        raise InputError("%s%s: not UTF-8 text" % (path, NAMES_ENDING)) from None
     if digest_in(text) not in (None, digest(data)):
-        warn("%s%s belongs to another file than %s: its digest differs, and its names are left out" % (
-            path, ENDING, path))
+        warn(
+            "%s%s belongs to another file than %s: its digest differs, and its names are left out"
+            % (path, NAMES_ENDING, path)
+        )
         return Names()
-    return from_text(text, path + ENDING)
+    return names_in(text, path + NAMES_ENDING)

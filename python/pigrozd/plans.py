@@ -1,7 +1,7 @@
 """A plan as bytes, as text, as nested pairs and as a tree; the check of a plan (answers 7 to 9); each join's key.
 
-The text of a plan is the name of a table, or (LEFT RIGHT) with two plans in it: (frames (exposures readings)). A table may
-also be given by its number, and a name with blanks or brackets stands in double quotes.
+The text of a plan is the name of a table, or (LEFT RIGHT) with two plans in it: (frames (exposures readings)). A table
+may also be given by its number, and a name with blanks or brackets stands in double quotes.
 """
 import operator
 import re
@@ -19,6 +19,7 @@ JOIN = 255  # the byte of a join; a left plan and a right plan follow
 @dataclass(frozen=True)
 class Leaf:
     """A table in a plan. `index` is that of its byte."""
+
     index: int
     table: int
 
@@ -26,6 +27,7 @@ class Leaf:
 @dataclass(frozen=True)
 class Join:
     """A join in a plan. `index` is that of its byte."""
+
     index: int
     left: "Plan"
     right: "Plan"
@@ -115,6 +117,7 @@ def table_number(table: Any, names: Sequence[str]) -> int:
 
 class Token(NamedTuple):
     """A bracket of a plan's text, or the word between brackets, and the place of its first character."""
+
     place: int
     bracket: str
     word: str
@@ -198,7 +201,7 @@ def check(code: bytes, tables: Sequence[Shape], names: Names) -> Optional[Refuse
 
 
 def misspelled(code: bytes) -> Optional[Tuple[int, str]]:
-    """The index of the first byte that cannot stand where it does (the length if the plan ends early) and why, or None."""
+    """The index of the first byte that cannot stand there (the length if the plan ends early) and why, or None."""
     owed = 1
     for index, byte in enumerate(code):
         if owed == 0:
@@ -250,8 +253,11 @@ def lacking(join: Join, tables: Sequence[Shape]) -> List[Tuple[str, int, List[in
 
 def what_lacks(join: Join, tables: Sequence[Shape], names: Names) -> str:
     """Which leftmost table lacks which join attribute, in words."""
-    return "; ".join("%s, the leftmost table on the %s, has no %s" % (
-        names.table(t), side, " and no ".join(map(names.attribute, lacks))) for side, t, lacks in lacking(join, tables))
+    return "; ".join(
+        "%s, the leftmost table on the %s, has no %s"
+        % (names.table(t), side, " and no ".join(map(names.attribute, lacks)))
+        for side, t, lacks in lacking(join, tables)
+    )
 
 
 def sides_of(join: Join, names: Names) -> str:
@@ -263,7 +269,10 @@ def sides_of(join: Join, names: Names) -> str:
 def why_broken(join: Join, tables: Sequence[Shape], names: Names) -> str:
     """Why a join is not well-behaved, in words."""
     return "the join of %s is on %s, but %s" % (
-        sides_of(join, names), listed([names.attribute(a) for a in key(join, tables)]), what_lacks(join, tables, names))
+        sides_of(join, names),
+        listed([names.attribute(a) for a in key(join, tables)]),
+        what_lacks(join, tables, names),
+    )
 
 
 # ---- figures

@@ -8,6 +8,7 @@ Key = Union[str, int]  # what an attribute is called: its name, or its number
 
 class Counts(NamedTuple):
     """The four counts of the work done, as document 01 defines them."""
+
     entries: int
     lookups: int
     comparisons: int
@@ -16,8 +17,9 @@ class Counts(NamedTuple):
 
 @dataclass(frozen=True, repr=False)
 class Result:
-    """A join's result: its columns by attribute (name or number, as the tables were given), how many rows it has, and the
-    four counts of the work done. Going through it gives its rows, each a tuple of values in the order of `names`."""
+    """A join's result: its columns by attribute (name or number, as the tables were given), how many rows it has, and
+    the four counts of the work done. Going through it gives its rows, each a tuple in the order of `names`."""
+
     columns: Dict[Key, Any]
     rows: int
     entries: int
@@ -45,9 +47,10 @@ class Result:
         return "<Result: %d rows, names %s, %s>" % (self.rows, reprlib.repr(self.names), self.counts)
 
     def to_numpy(self) -> Any:
-        """A NumPy structured array, one field of 32-bit words for each attribute. An attribute that has only a number is
-        the field a0, a1 and so on."""
+        """A NumPy structured array, one field of 32-bit words for each attribute. An attribute that has only a number
+        is the field a0, a1 and so on."""
         import numpy
+
         fields = [name if isinstance(name, str) else "a%d" % name for name in self.columns]
         table = numpy.empty(self.rows, dtype=[(field, numpy.uint32) for field in fields])
         for field, column in zip(fields, self.columns.values()):
@@ -58,4 +61,7 @@ class Result:
         """A pandas DataFrame, one column of 32-bit words for each attribute, called by its name or number."""
         import numpy
         import pandas  # type: ignore[import]
-        return pandas.DataFrame({name: numpy.array(column, dtype=numpy.uint32) for name, column in self.columns.items()})
+
+        return pandas.DataFrame(
+            {name: numpy.array(column, dtype=numpy.uint32) for name, column in self.columns.items()}
+        )

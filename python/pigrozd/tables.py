@@ -16,12 +16,14 @@ KINDS = "a mapping of columns, a pandas DataFrame or a NumPy structured array"
 
 class Given(NamedTuple):
     """A table that was given: how errors call it, and its columns by attribute."""
+
     called: str
     columns: Mapping[Key, Any]
 
 
 class Records(NamedTuple):
     """Table records, how their tables and attributes are called, and the attributes' names or numbers by number."""
+
     data: bytes
     names: Names
     keys: Dict[int, Key]
@@ -80,7 +82,9 @@ def keys_of(given: Sequence[Given]) -> Dict[int, Key]:
             kinds.setdefault(is_text(key, table.called), (table.called, key))
     if len(kinds) == 2:
         (where, text), (other, number) = kinds[True], kinds[False]
-        raise InputError("attributes have names or numbers, not both: %s has %r and %s has %r" % (where, text, other, number))
+        raise InputError(
+            "attributes have names or numbers, not both: %s has %r and %s has %r" % (where, text, other, number)
+        )
     for table in given:
         for key in table.columns:
             if not isinstance(key, str):
@@ -88,8 +92,9 @@ def keys_of(given: Sequence[Given]) -> Dict[int, Key]:
             elif key not in keys.values():
                 keys[len(keys)] = key
     if len(keys) > ATTRIBUTE_NUMBERS:
-        raise InputError("the tables have %d attributes together, and at most %d can be joined" % (
-            len(keys), ATTRIBUTE_NUMBERS))
+        raise InputError(
+            "the tables have %d attributes together, and at most %d can be joined" % (len(keys), ATTRIBUTE_NUMBERS)
+        )
     return keys
 
 
@@ -125,6 +130,8 @@ def record_of(table: Given, keys: Dict[int, Key]) -> bytes:
             columns.append((number, column_words(table.columns[key], "%s, %s" % (table.called, kind))))
     lengths = {attribute_in_words(keys[number]): len(words) // 4 for number, words in columns}
     if len(set(lengths.values())) > 1:
-        raise InputError("%s: columns of different length: %s" % (
-            table.called, ", ".join("%s has %d" % item for item in lengths.items())))
+        raise InputError(
+            "%s: columns of different length: %s"
+            % (table.called, ", ".join("%s has %d" % item for item in lengths.items()))
+        )
     return table_record(columns, max(lengths.values(), default=0))

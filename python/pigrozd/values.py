@@ -1,4 +1,4 @@
-"""What a value is: a whole number from 0 to 4,294,967,295. A column's values are kept as little-endian words of 4 bytes.
+"""What a value is: a whole number from 0 to 4,294,967,295. A column's values are kept as little-endian words.
 
 What is not such a number is refused, and so is what is missing: a masked value, None, NaN, NA, NaT.
 """
@@ -101,7 +101,9 @@ def refuse_kind(values: Any, where: str) -> None:
         raise ValueError("%s: a column has one dimension, not %s" % (where, dimensions))
     dtype: Any = getattr(values, "dtype", None)
     if getattr(dtype, "kind", "") == "f" and dtype.itemsize < 8:
-        raise TypeError("%s: %s does not hold every number from %s; give whole numbers or float64" % (where, dtype, RANGE))
+        raise TypeError(
+            "%s: %s does not hold every number from %s; give whole numbers or float64" % (where, dtype, RANGE)
+        )
 
 
 def refuse_masked(values: Any, where: str) -> None:
@@ -110,7 +112,9 @@ def refuse_masked(values: Any, where: str) -> None:
     if masked and isinstance(values, masked.MaskedArray):
         mask = masked.getmaskarray(values)
         if mask.any():
-            raise ValueError("%s, row %d: a masked value, and what is missing cannot be joined" % (where, mask.argmax()))
+            raise ValueError(
+                "%s, row %d: a masked value, and what is missing cannot be joined" % (where, mask.argmax())
+            )
 
 
 def items_of(values: Any, where: str) -> Union[bytes, Iterable[Any]]:
@@ -121,8 +125,9 @@ def items_of(values: Any, where: str) -> Union[bytes, Iterable[Any]]:
         try:
             return list(values)
         except TypeError:
-            raise TypeError("%s: a column is a sequence of whole numbers, not a %s" % (
-                where, type(values).__name__)) from None
+            raise TypeError(
+                "%s: a column is a sequence of whole numbers, not a %s" % (where, type(values).__name__)
+            ) from None
     if view.format == "O":
         return list(values)
     if view.itemsize == 4 and view.format.lstrip("@=<") in ("I", "L") and sys.byteorder == "little":
