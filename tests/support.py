@@ -143,8 +143,15 @@ class Folder(unittest.TestCase):
         self.assertEqual(err.count("\n"), 1, err)
         return out
 
+    unbuffered = ""  # PYTHONUNBUFFERED of the processes that are run; empty is as if it were not set
+
+    def environment(self, **more):
+        """The environment of a process."""
+        return dict(os.environ, PYTHONUNBUFFERED=self.unbuffered, **more)
+
     def process(self, *arguments, **options):
         """Runs a command as a process of its own."""
+        options.setdefault("env", self.environment())
         options.setdefault("stdout", subprocess.PIPE)
         options.setdefault("stdin", subprocess.DEVNULL if "input" not in options else None)
         if options["stdin"] is None:

@@ -1,7 +1,6 @@
 """Tests of pigrozd join, and of how a command ends whatever happens to its streams."""
 import os
 import random
-import shutil
 import signal
 import sqlite3
 import subprocess
@@ -237,7 +236,8 @@ class Streams(Folder):
 
     def test_full_standard_error(self):
         with open("/dev/full", "wb") as full:
-            done = subprocess.run([sys.executable, path("bin", "pigrozd"), "join", self.at("none.csv")], stderr=full)
+            program = [sys.executable, path("bin", "pigrozd"), "join", self.at("none.csv")]
+            done = subprocess.run(program, stderr=full, env=self.environment())
         self.assertEqual(done.returncode, 2)
 
     def shell(self, command):
@@ -245,7 +245,7 @@ class Streams(Folder):
         program = "%s %s" % (sys.executable, path("bin", "pigrozd"))
         done = subprocess.run(
             ["bash", "-c", command],
-            env=dict(os.environ, pigrozd=program),
+            env=self.environment(pigrozd=program),
             stderr=subprocess.PIPE,
             stdout=subprocess.PIPE,
             stdin=subprocess.DEVNULL,
@@ -271,6 +271,8 @@ class Streams(Folder):
             "$pigrozd join %s %s --plan '(big other)' | head -n 1; exit ${PIPESTATUS[0]}" % (big, other)
         )
         self.assertEqual((done.returncode, done.stdout, done.stderr), (2, b"x,y\n", b""))
+        done = self.shell("$pigrozd join %s | true; exit ${PIPESTATUS[0]}" % CSVS[0])
+        self.assertEqual((done.returncode, done.stderr), (2, b""))
 
     def test_interrupt(self):
         os.mkfifo(self.at("f.csv"))
@@ -285,34 +287,31 @@ class Streams(Folder):
 
     def test_full_disk(self):
         """A file that cannot be written in full is not put in place of the one before."""
-        place = "/dev/shm/pigrozd-test-%d" % os.getpid()
-        try:
-            os.mkdir(place)
-        except OSError:
-            self.skipTest("there is no /dev/shm to write to")
-        self.addCleanup(shutil.rmtree, place)
-        out = os.path.join(place, "out.csv")
-        self.command("join", CSVS[0], "-o", out)
+        self.command("join", CSVS[0], "-o", self.at("out.csv"))
         big = self.write("big.csv", "x\n" + "4294967295\n" * 4096)
-        done = self.shell("ulimit -f 8; $pigrozd join %s -o %s" % (big, out))
-        self.assertEqual(done.returncode, 2)
-        self.assertRegex(done.stderr, b"out.csv: File too large")
-        with open(out, "rb") as stream:
-            self.assertEqual(stream.read().count(b"\n"), 5)
-        self.assertEqual(os.listdir(place), ["out.csv"])
+        done = self.shell("ulimit -f 8; $pigrozd join %s -o out.csv" % big)
+        self.assertEqual((done.returncode, done.stderr), (2, b"pigrozd: out.csv: File too large\n"))
+        self.assertEqual(self.read("out.csv").count(b"\n"), 5)
+        self.assertEqual(sorted(os.listdir(self.folder)), ["big.csv", "out.csv"])
 
     def test_foreign_library(self):
         for named, words in (("libc.so.6", b"is not Pigrozd's library"), ("./none.so", b"cannot be loaded")):
-            done = self.process("join", CSVS[0], env=dict(os.environ, PIGROZD_LIBRARY=named))
+            done = self.process("join", CSVS[0], env=self.environment(PIGROZD_LIBRARY=named))
             self.assertEqual(done.returncode, 2)
             self.assertIn(words, done.stderr)
 
     def test_locale(self):
         """Names are UTF-8 whatever the locale; a file name that is not UTF-8 is told."""
         t = self.write("t.csv", "süd\n5\n")
-        done = self.process("join", t, env=dict(os.environ, LC_ALL="C", PYTHONUTF8="0", PYTHONCOERCECLOCALE="0"))
+        done = self.process("join", t, env=self.environment(LC_ALL="C", PYTHONUTF8="0", PYTHONCOERCECLOCALE="0"))
         self.assertEqual(done.stdout.decode("utf-8"), "süd\n5\n")
         self.assertEqual(self.process("join", os.fsencode(self.folder) + b"/\xff.csv").returncode, 2)
+
+
+class StreamsWithoutBuffer(Streams):
+    """The same where Python does not gather what is written: a stream then may take a part of it at a time."""
+
+    unbuffered = "1"
 
 
 if __name__ == "__main__":

@@ -338,6 +338,15 @@ class Refusals(unittest.TestCase):
         )
         self.refused(
             11,
+            4096 * 4096,
+            None,
+            r"fits 349,525$",
+            pigrozd.join,
+            [{0: [1] * 4096, 1: [1] * 4096}, {0: [1] * 4096, 2: [1] * 4096}],
+            (0, 1),
+        )
+        self.refused(
+            11,
             4294967295,
             None,
             "at least 4,294,967,295 results of 3 values",

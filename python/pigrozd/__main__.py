@@ -1,6 +1,8 @@
 """python3 -m pigrozd, and the script pigrozd: the command line."""
 import sys
 
+INTERRUPTED = 130
+
 
 def start() -> None:
     """Runs the command line and ends with its status. An interrupt ends it quietly, also while it is loaded."""
@@ -9,7 +11,7 @@ def start() -> None:
 
         status = main()
     except KeyboardInterrupt:
-        status = 130
+        status = INTERRUPTED
     sys.exit(status)
 
 

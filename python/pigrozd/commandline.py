@@ -9,7 +9,7 @@ from typing import Any, List, Optional, Sequence
 
 from . import __version__, commands
 from .answers import Refused
-from .commands import INTERRUPTED, REFUSED, UNUSABLE
+from .commands import REFUSED, UNUSABLE
 from .messages import InputError
 from .streams import PROGRAM, tell, write_out
 
@@ -35,8 +35,6 @@ def main(arguments: Optional[Sequence[str]] = None) -> int:
         tell("%s: %s" % (error.filename or "''", error.strerror) if error.filename is not None else str(error))
     except MemoryError:
         tell("there is not enough memory")
-    except KeyboardInterrupt:
-        return INTERRUPTED
     return UNUSABLE
 
 

@@ -14,7 +14,7 @@ from .messages import InputError, count
 from .names import NAMES_ENDING, Names, digest, digest_in, fault_of_table_name, load_beside, names_beside, names_text
 from .streams import standard_input, tell, write_out
 
-DONE, REFUSED, UNUSABLE, INTERRUPTED = 0, 1, 2, 130  # how a command ends
+DONE, REFUSED, UNUSABLE = 0, 1, 2  # how a command ends
 
 Arguments = argparse.Namespace
 

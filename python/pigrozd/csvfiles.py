@@ -49,7 +49,8 @@ def read(path: str) -> Sheet:
         start = stream.peek(16)[:16]
         if start[:2] in (TABLE_MARK, PLAN_MARK) and b"\0" in start:
             raise InputError("%s: a packed file, not CSV; a packed file is joined alone" % path)
-        read_lines(sheet, lines_of(sheet, io.TextIOWrapper(stream, encoding="utf-8-sig", newline="")))
+        with io.TextIOWrapper(stream, encoding="utf-8-sig", newline="") as text:
+            read_lines(sheet, lines_of(sheet, text))
     if not sheet.header:
         raise InputError("%s, line 1: the line with the names of the attributes is missing" % path)
     return sheet
