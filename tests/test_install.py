@@ -15,31 +15,24 @@ import pigrozd
 MISSING = [name for name in ("pip", "setuptools") if importlib.util.find_spec(name) is None]
 if not MISSING and int(importlib.metadata.version("setuptools").split(".")[0]) < 61:
     MISSING = ["setuptools 61 or later"]
+needs_setuptools = unittest.skipIf(MISSING, "%s is not there for %s" % (" and ".join(MISSING), sys.executable))
 
 
 class Installed(Folder):
-    @unittest.skipIf(MISSING, "%s is not there for %s" % (" and ".join(MISSING), sys.executable))
-    def test_pip(self):
-        """pip install --no-build-isolation, without a network, into a folder; then the script and the module join."""
+    def copy_sources(self):
+        """Copies what the package is built from, so that nothing is left in the repository."""
         for name in ("pyproject.toml", "setup.py"):
             shutil.copy(path(name), self.at(name))
         shutil.copytree(path("python"), self.at("python"), ignore=shutil.ignore_patterns("__pycache__", "*.egg-info"))
+
+    @needs_setuptools
+    def test_pip(self):
+        """pip install --no-build-isolation, without a network, into a folder; then the script and the module join."""
+        self.copy_sources()
         os.makedirs(self.at("target/lib"))
         shutil.copy(path("target", "lib", "libpigrozd.so"), self.at("target/lib"))
-        pip = [
-            sys.executable,
-            "-m",
-            "pip",
-            "install",
-            "--no-build-isolation",
-            "--no-deps",
-            "--no-index",
-            "--quiet",
-            "--disable-pip-version-check",
-            "--target",
-            self.at("installed"),
-            self.folder,
-        ]
+        options = "--no-build-isolation --no-deps --no-index --quiet --disable-pip-version-check --target".split()
+        pip = [sys.executable, "-m", "pip", "install", *options, self.at("installed"), self.folder]
         done = subprocess.run(pip, stdout=subprocess.PIPE, stderr=subprocess.STDOUT)
         self.assertEqual(done.returncode, 0, done.stdout.decode())
         environment = dict(os.environ, PYTHONPATH=self.at("installed"))
@@ -58,6 +51,19 @@ class Installed(Folder):
             [sys.executable, *start, "--version"], env=environment, stdout=subprocess.PIPE, check=True
         )
         self.assertEqual(done.stdout.decode(), "pigrozd %s\n" % pigrozd.__version__)
+
+    @needs_setuptools
+    def test_without_the_library(self):
+        """A package is not built without the library, and says what builds it."""
+        self.copy_sources()
+        done = subprocess.run(
+            [sys.executable, "setup.py", "-q", "build"],
+            cwd=self.folder,
+            stdout=subprocess.PIPE,
+            stderr=subprocess.STDOUT,
+        )
+        self.assertNotEqual(done.returncode, 0)
+        self.assertIn(b"libpigrozd.so is missing: make lib builds it", done.stdout)
 
     def test_started_from_elsewhere(self):
         """bin/pigrozd finds the package through a link and from another folder."""
@@ -89,6 +95,16 @@ class Source(unittest.TestCase):
         for argument in node.args.args + node.args.kwonlyargs:
             self.assertTrue(argument.arg == "self" or argument.annotation, where)
         self.assertLess(node.end_lineno - node.lineno, 40, where)
+
+    @unittest.skipUnless(shutil.which("mypy"), "mypy is not there")
+    def test_types_agree(self):
+        """mypy finds no fault in the package, and finds those of a program that uses it wrongly."""
+        program = "import pigrozd\npigrozd.join([{0: [1]}, {0: [1]}], (0, 1)).columns\npigrozd.join_file(5)\n"
+        for arguments, faults in (([path("python", "pigrozd")], 0), (["-c", program], 1)):
+            command = ["mypy", "--strict", "--python-version", "3.9", "--cache-dir", os.devnull, *arguments]
+            environment = dict(os.environ, MYPYPATH=path("python"))
+            done = subprocess.run(command, stdout=subprocess.PIPE, stderr=subprocess.STDOUT, env=environment)
+            self.assertEqual(done.stdout.decode().count(": error: "), faults, done.stdout.decode())
 
     def test_lines(self):
         for folder in ("python/pigrozd", "tests", "bin", "examples/numpy"):

@@ -1,21 +1,21 @@
 """Joins of tables and of files."""
 import os
 import warnings
-from typing import Any, Dict, Optional, Tuple
+from typing import Dict, Optional, Tuple, Union
 
 from . import plans
 from .answers import LAST_OF_PLANS, Refused
 from .fileformat import File, plan_record, read
 from .files import load
-from .library import Answer, bytes_of, call_with_enough
+from .library import Answer, BytesLike, bytes_of, call_with_enough
 from .limits import HIGHEST_COUNT, MOST_OUTPUT
 from .messages import InputError, count
 from .names import Names, names_beside
 from .results import Key, Result
-from .tables import records_of
+from .tables import GivenTables, records_of
 
 
-def join(tables: Any, plan: Any = None) -> Result:
+def join(tables: GivenTables, plan: Optional[plans.GivenPlan] = None) -> Result:
     """Joins tables by a plan: a Result, or Refused.
 
     tables: a list of tables, or a mapping of table names to tables. A table is a mapping of attributes to columns, a
@@ -29,12 +29,12 @@ def join(tables: Any, plan: Any = None) -> Result:
     return join_bytes(data, names, keys)
 
 
-def make_file(tables: Any, plan: Any = None) -> bytes:
+def make_file(tables: GivenTables, plan: Optional[plans.GivenPlan] = None) -> bytes:
     """The file of these tables and this plan, as bytes. It may still be one that the library refuses."""
     return packed(tables, plan)[0]
 
 
-def join_file(file: Any) -> Result:
+def join_file(file: Union[str, "os.PathLike[str]", BytesLike]) -> Result:
     """Joins a file: a Result, or Refused. `file` is its path, or its bytes.
 
     Columns are called by attribute number; with names beside the path (PATH.names, of this very file), by name."""
@@ -48,7 +48,7 @@ def join_file(file: Any) -> Result:
     return join_bytes(data, names, {a: names.attribute(a) for a in plans.width(read(data).tables)})
 
 
-def packed(tables: Any, plan: Any) -> Tuple[bytes, Names, Dict[int, Key]]:
+def packed(tables: GivenTables, plan: Optional[plans.GivenPlan]) -> Tuple[bytes, Names, Dict[int, Key]]:
     """The file of these tables and this plan, its names, and its attributes by number."""
     records, names, keys = records_of(tables)
     if plan is None:

@@ -3,7 +3,7 @@ import array
 import ctypes
 import functools
 import os
-from typing import Any, NamedTuple, Tuple
+from typing import Any, NamedTuple, Tuple, Union
 
 from .fileformat import read
 from .limits import MOST_OUTPUT
@@ -12,6 +12,9 @@ from .plans import width
 VARIABLE = "PIGROZD_LIBRARY"
 FILE_NAME = "libpigrozd.so"
 FIRST_OUTPUT = 16384  # words of output lent at first
+
+
+BytesLike = Union[bytes, bytearray, memoryview]
 
 
 class LibraryError(OSError):
@@ -73,7 +76,7 @@ def library() -> Any:
 
 
 # ---- calling
-def bytes_of(file: Any) -> bytes:
+def bytes_of(file: BytesLike) -> bytes:
     """The bytes of a bytes-like object; TypeError for anything else."""
     try:
         return memoryview(file).tobytes()
@@ -95,7 +98,7 @@ def lent(buffer: Any) -> Tuple[Any, int]:
     return words, count
 
 
-def call(file: Any, scratch: Any, output: Any) -> Answer:
+def call(file: BytesLike, scratch: Any, output: Any) -> Answer:
     """One call of the library: its Answer, refusals too.
 
     It is given the bytes of a file and two writable buffers of 32-bit words, such as array.array('I')."""

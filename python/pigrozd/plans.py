@@ -34,6 +34,7 @@ class Join:
 
 
 Plan = Union[Leaf, Join]
+GivenPlan = Union[str, int, bytes, bytearray, Sequence[Any]]  # a text, a table's number, bytes, or a pair of plans
 
 
 class Shape:
@@ -69,7 +70,7 @@ def joins_of(plan: Plan) -> List[Join]:
 TOKEN = re.compile(r'\s*(?:(?P<bracket>[()])|"(?P<quoted>[^"]*)"|(?P<word>[^\s()"]+))')
 
 
-def code_of(plan: Any, names: Sequence[str]) -> bytes:
+def code_of(plan: GivenPlan, names: Sequence[str]) -> bytes:
     """The bytes of a plan given as bytes, as text, or as a table or a pair of plans. `names` are the tables' names, in
     the order of their numbers."""
     if isinstance(plan, (bytes, bytearray)):

@@ -1,4 +1,5 @@
 """The result of a join."""
+import array
 import reprlib
 from dataclasses import dataclass
 from typing import Any, Dict, Iterator, NamedTuple, Tuple, Union
@@ -20,7 +21,7 @@ class Result:
     """A join's result: its columns by attribute (name or number, as the tables were given), how many rows it has, and
     the four counts of the work done. Going through it gives its rows, each a tuple in the order of `names`."""
 
-    columns: Dict[Key, Any]
+    columns: Dict[Key, "array.array[int]"]
     rows: int
     entries: int
     lookups: int

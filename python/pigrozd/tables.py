@@ -2,7 +2,7 @@
 import collections.abc
 import operator
 import sys
-from typing import Any, Dict, List, Mapping, NamedTuple, Sequence, Tuple
+from typing import Any, Dict, List, Mapping, NamedTuple, Sequence, Tuple, Union
 
 from .fileformat import table_record
 from .limits import ATTRIBUTE_NUMBERS
@@ -11,6 +11,7 @@ from .names import Names
 from .results import Key, Result
 from .values import column_words
 
+GivenTables = Union[Mapping[str, Any], Sequence[Any]]  # pandas and NumPy may be missing, so a table has no type here
 KINDS = "a mapping of columns, a pandas DataFrame or a NumPy structured array"
 
 
@@ -29,7 +30,7 @@ class Records(NamedTuple):
     keys: Dict[int, Key]
 
 
-def records_of(tables: Any) -> Records:
+def records_of(tables: GivenTables) -> Records:
     """The records of the tables given."""
     names = Names()
     given: List[Given] = []
@@ -42,7 +43,7 @@ def records_of(tables: Any) -> Records:
     return Records(b"".join(record_of(table, keys) for table in given), names, keys)
 
 
-def named_tables(tables: Any) -> List[Tuple[str, Any]]:
+def named_tables(tables: GivenTables) -> List[Tuple[str, Any]]:
     """The tables in their order, each with its name; the name is empty if it has none."""
     if isinstance(tables, collections.abc.Mapping):
         for name in tables:
