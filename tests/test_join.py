@@ -53,7 +53,7 @@ class Joining(Folder):
         self.assertGreater(done, 60)
 
     def test_endless_inputs(self):
-        self.fails("/dev/zero is longer than 67,108,864 bytes", "join", "/dev/zero")
+        self.fails("/dev/zero is longer than 16,777,216 bytes", "join", "/dev/zero")
         self.fails(
             "/dev/zero, line 1: a line of 1,048,576 letters or more",
             "join",
@@ -84,6 +84,13 @@ class Joining(Folder):
             self.fails("is not the name of a file", "join", frames, "-o", name)
         self.fails("'': No such file", "join", "")
         self.fails("none/out.csv: No such file", "join", frames, "-o", self.at("none/out.csv"))
+
+    def test_read_only_files_are_not_replaced(self):
+        self.write("kept.csv", "before\n")
+        os.chmod(self.at("kept.csv"), 0o444)
+        if os.access(self.at("kept.csv"), os.W_OK):
+            self.skipTest("this user may write every file")
+        self.fails("kept.csv may not be written", "join", CSVS[0], "-o", self.at("kept.csv"))
 
     def test_a_refusal_writes_nothing(self):
         self.write("joined.csv", "before\n")

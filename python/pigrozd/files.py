@@ -10,8 +10,8 @@ from typing import BinaryIO, Iterable, List, Tuple
 
 from .messages import InputError
 
-
-MOST_READ = 2**26  # bytes of an input that are read; document 01's longest file has 2,097,570
+MOST_READ = 2**24  # bytes of an input that are read; document 01's longest file has 2,097,570
+STREAMS = re.compile(r"/dev/(stdin|stdout|stderr)|/dev/fd/.*|/proc/.*")  # these may lead to a regular file
 
 
 def load(path: str) -> bytes:
@@ -28,11 +28,8 @@ def read_all(stream: BinaryIO, called: str) -> bytes:
     return data
 
 
-STREAMS = re.compile(r"/dev/(stdin|stdout|stderr)|/dev/fd/.*|/proc/.*")  # these may lead to a regular file
-
-
 def refuse_target(path: str, inputs: Iterable[str]) -> None:
-    """Refuses to write to what is not a regular file, and to one of the inputs."""
+    """Refuses to write to what is not a regular file or may not be written, and to one of the inputs."""
     if not os.path.basename(path):
         raise InputError("%r is not the name of a file" % path)
     if STREAMS.fullmatch(os.path.abspath(path)):
@@ -43,6 +40,8 @@ def refuse_target(path: str, inputs: Iterable[str]) -> None:
         return
     if not stat.S_ISREG(mode):
         raise InputError("%s is no regular file, and only these are written" % path)
+    if not os.access(path, os.W_OK):
+        raise InputError("%s may not be written" % path)
     for other in inputs:
         if os.path.exists(other) and os.path.samefile(path, other):
             raise InputError("%s is read here, so it is not written" % path)
@@ -87,10 +86,10 @@ def rights(target: str) -> int:
 def write_file(made: str, target: str, data: bytes, path: str) -> None:
     """Writes a new file, with the rights of the file that it will replace. An error names the path."""
     try:
-        os.chmod(made, rights(target))
         with open(made, "wb") as stream:
             stream.write(data)
             stream.flush()
             os.fsync(stream.fileno())
+        os.chmod(made, rights(target))
     except OSError as error:
         raise OSError(error.errno, error.strerror, path) from None
