@@ -96,12 +96,8 @@ class Damaged(Folder):
             ]
             with self.subTest(csv=self.read(files[at]), at=at):
                 self.ends("join", *files, "--plan", SAMPLE_PLAN)
-                self.ends(
-                    "join",
-                    *files,
-                    "--plan",
-                    damaged_text(SAMPLE_PLAN.encode(), draw).decode("utf-8", "surrogateescape"),
-                )
+                plan = damaged_text(SAMPLE_PLAN.encode(), draw).decode("utf-8", "surrogateescape")
+                self.ends("join", *files, "--plan=" + plan)
                 self.ends("pack", "--force", self.at("out"), *files, "--plan", SAMPLE_PLAN)
                 self.ends("plan", SAMPLE_PLAN, "--tables", *files)
             self.write("packed.names", damaged_text(draw.choice((names, by_hand)), draw))
