@@ -96,8 +96,7 @@ class Joining(Folder):
         self.write("joined.csv", "before\n")
         self.fails(
             "refused 9 0: .*: the join of frames with readings and exposures is on exposure, but readings, the "
-            "leftmost table "
-            "on the right, has no exposure",
+            "leftmost table on the right, has no exposure; --explain draws the plan",
             "join",
             *CSVS,
             "--plan",

@@ -74,9 +74,11 @@ def join(a: Arguments) -> int:
     try:
         return join_and_write(a)
     except Refused as refused:
-        if not is_packed(a.files):
-            raise
-        return refused_file(a.files[0], refused, a.plan)
+        if is_packed(a.files):
+            return refused_file(a.files[0], refused, a.plan)
+        drawn = refused.number == LAST_OF_PLANS and not a.explain
+        tell("%s%s" % (refused, "; --explain draws the plan" if drawn else ""))
+        return REFUSED
 
 
 def join_and_write(a: Arguments) -> int:
