@@ -140,10 +140,10 @@ help:
 	    'make install [PREFIX=/usr/local] [DESTDIR=]' \
 	    '                       header, libraries, pkg-config file, program and manual pages; a second after make lib and make run' \
 	    'make uninstall         removes what make install put there; the same PREFIX and DESTDIR' \
-	    'make check-users       check-c, check-python and check-tools' \
+	    'make check-users       check-c, check-python and check-commands; half a minute after make lib and make run' \
 	    'make check-c           the header, the C examples and an installation; seconds after make lib' \
 	    'make check-python      the Python package over the shared library; seconds after make lib' \
-	    'make check-tools       the tools for tables and plans; 20 seconds' \
+	    'make check-commands    the commands of the Python package; 15 seconds after make lib' \
 	    'make bench             measures the join beside other joins; 2 minutes' \
 	    'make check-bench       only whether these joins agree; 15 seconds after make lib' \
 	    'make clean             removes target/, with all that is proved and built' \
