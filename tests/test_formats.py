@@ -112,7 +112,7 @@ class PlanText(unittest.TestCase):
 
     def test_plans_that_are_no_text(self):
         for pattern, text in {
-            "at character 9: no table is called panels; there are frames, exposures, readings": "(frames panels)",
+            "at character 9: no table is called panels; there are frames, exposures and readings": "(frames panels)",
             "at character 19: a third side of a join": "(frames exposures readings)",
             "at character 8: a join has two sides": "(frames)",
             "at character 2: a join has two sides": "()",

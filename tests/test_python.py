@@ -158,7 +158,8 @@ class Values(unittest.TestCase):
             self.refused(ValueError, r", row 2: .* is not a whole number", [1, 2, value])
 
     def test_what_is_no_number(self):
-        for value in ("1", b"1", [1], decimal.Decimal(1), 1j, object(), datetime.date(2026, 1, 1)):
+        signal = decimal.Decimal("sNaN")  # it can be compared with nothing
+        for value in ("1", b"1", [1], decimal.Decimal(1), signal, 1j, object(), datetime.date(2026, 1, 1)):
             self.refused(TypeError, r", row 1: .* is not a whole number", [1, value])
         for value in (True, False):
             self.refused(TypeError, r", row 1: .* is a truth value, not a number", [1, value])
@@ -193,6 +194,13 @@ class Values(unittest.TestCase):
         self.assertEqual(len(pigrozd.join([{0: column}, {0: column}], (0, 1))), 3)
 
 
+class Two:
+    """Stands for 2, but is not equal to it."""
+
+    def __index__(self):
+        return 2
+
+
 class Tables(unittest.TestCase):
     def refused(self, kind, pattern, tables, plan=(0, 1)):
         with self.assertRaisesRegex(kind, pattern):
@@ -216,6 +224,7 @@ class Tables(unittest.TestCase):
             TypeError, "table 0: an attribute is a name or a number from 0 to 31, not True", [{True: [1]}], 0
         )
         self.refused(TypeError, "table 0: an attribute is a name .* not None", [{None: [1]}], 0)
+        self.refused(TypeError, "table 0: an attribute is a name .* not <.*Two", [{0: [1], Two(): [1]}], 0)
         self.refused(TypeError, "table 0: an attribute is a name .*, not \\('a', 1\\)", [{("a", 1): [1]}], 0)
         self.refused(ValueError, "table 0: an attribute without a name", [{"": [1]}], 0)
         self.refused(
@@ -247,7 +256,7 @@ class Plans(unittest.TestCase):
             "the plan has -1": -1,
             "the plan has 300": (0, (1, 300)),
             "at most 255 bytes": bytes(256),
-            "no table is called frame;": "(frame 1)",
+            "no table is called frame; there are table 0, table 1 and table 2": "(frame 1)",
             "names a table 'x'; there are table 0, table 1 and table 2": (0, (1, "x")),
             "at character 4: a join has two sides": "(0 )",
         }.items():
@@ -446,7 +455,9 @@ class NumPy(unittest.TestCase):
         self.refused(TypeError, ": a column holds whole numbers, not truth values", numpy.zeros(1, dtype="bool"))
         for kind in ("datetime64[s]", "timedelta64[s]", "S4", "U4", "V4", "complex128", "longdouble"):
             self.refused(TypeError, "", numpy.zeros(1, dtype=kind))
-        self.refused(TypeError, ", row 1: ", [1, numpy.bool_(True)])
+        with warnings.catch_warnings():
+            warnings.simplefilter("error")
+            self.refused(TypeError, ", row 1: True is a truth value, not a number", [1, numpy.bool_(True)])
         self.refused(ValueError, ": a column has one dimension, not 2", numpy.zeros((2, 2), dtype="uint32"))
         self.refused(ValueError, ": a column has one dimension, not 0", numpy.array(5))
 
@@ -523,6 +534,9 @@ class Pandas(unittest.TestCase):
             with self.subTest(kind=kind):
                 self.assertEqual(list(pigrozd.join([{"x": pandas.Series([7, 8], dtype=kind)}])), [(7,), (8,)])
         self.assertEqual(list(pigrozd.join([{"x": pandas.Index([7, 8])}])), [(7,), (8,)])
+        for kind in ("int64", "float64"):
+            sparse = pandas.Series([7, 8], dtype=pandas.SparseDtype(kind))
+            self.assertEqual(list(pigrozd.join([{"x": sparse}])), [(7,), (8,)])
 
     def refused(self, kind, pattern, column):
         with self.subTest(column=repr(column)), self.assertRaisesRegex(kind, "table 0, column x" + pattern):
@@ -539,6 +553,9 @@ class Pandas(unittest.TestCase):
         self.refused(TypeError, ", row 0: .*Timestamp", [pandas.Timestamp(0)])
         self.refused(TypeError, ", row 0: '1'", ["1"])
         self.refused(TypeError, ": [Ff]loat32 does not hold every number", pandas.Series([1], dtype="float32"))
+        sparse = pandas.SparseDtype("float32")
+        self.refused(TypeError, ": float32 does not hold every number", pandas.Series([1], dtype=sparse))
+        self.refused(ValueError, ", row 1: nan stands", pandas.Series([1, None], dtype=pandas.SparseDtype("float64")))
 
     def test_refused_frames(self):
         twice = pandas.DataFrame([[1, 2]], columns=["x", "x"])

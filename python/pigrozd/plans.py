@@ -173,7 +173,8 @@ def named_table(text: str, token: Token, names: Sequence[str]) -> int:
         return names.index(token.word)
     if not token.quoted and re.fullmatch("[0-9]{1,2}", token.word) and int(token.word) < len(names):
         return int(token.word)
-    raise misplaced(text, token.place, "no table is called %s; there are %s" % (token.word, ", ".join(names)))
+    known = listed(names) or "no tables"
+    raise misplaced(text, token.place, "no table is called %s; there are %s" % (token.word, known))
 
 
 def misplaced(text: str, place: int, what: str) -> InputError:

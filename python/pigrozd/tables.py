@@ -109,7 +109,7 @@ def is_text(key: Any, called: str) -> bool:
         number = operator.index(key)
     except TypeError:
         number = None
-    if number is None or isinstance(key, bool):
+    if number is None or isinstance(key, bool) or key != number:  # what is not equal to its number is not found by it
         raise TypeError("%s: an attribute is a name or a number from 0 to 31, not %.60r" % (called, key))
     if not 0 <= number < ATTRIBUTE_NUMBERS:
         raise InputError("%s: attribute numbers are 0 to 31, not %.60r" % (called, key))

@@ -33,7 +33,7 @@ def is_missing(value: Any) -> bool:
         return bool(masked.getmaskarray(value).any())
     try:
         return bool(value != value)  # so it is with NaN and NaT alone
-    except (TypeError, ValueError):
+    except (TypeError, ValueError, ArithmeticError):  # of arrays; of a Decimal that signals
         return False
 
 
@@ -41,6 +41,8 @@ def whole_number(value: Any) -> int:
     """The value as a number from 0 to 4,294,967,295; TypeError or ValueError if it is none."""
     if is_missing(value):
         raise ValueError("%s stands for a missing value, and what is missing cannot be joined" % value)
+    if isinstance(value, bool) or getattr(getattr(value, "dtype", None), "kind", "") == "b":
+        raise TypeError("%s is a truth value, not a number" % value)
     if isinstance(value, float):
         if not value.is_integer():
             raise ValueError("%s is not a whole number" % value)
@@ -50,8 +52,6 @@ def whole_number(value: Any) -> int:
             number = operator.index(value)
         except TypeError:
             raise TypeError("%.60r (%s) is not a whole number" % (value, type(value).__name__)) from None
-        if isinstance(value, bool) or getattr(getattr(value, "dtype", None), "kind", "") == "b":
-            raise TypeError("%s is a truth value, not a number" % value)
     if not 0 <= number <= LARGEST:
         raise ValueError("%s is not in %s" % (number if number.bit_length() <= 128 else "a longer number", RANGE))
     return number
@@ -100,7 +100,8 @@ def refuse_kind(values: Any, where: str) -> None:
     if dimensions != 1:
         raise ValueError("%s: a column has one dimension, not %s" % (where, dimensions))
     dtype: Any = getattr(values, "dtype", None)
-    if getattr(dtype, "kind", "") == "f" and dtype.itemsize < 8:
+    dtype = getattr(dtype, "subtype", dtype)  # of pandas' sparse columns
+    if getattr(dtype, "kind", "") == "f" and getattr(dtype, "itemsize", 8) < 8:
         raise TypeError(
             "%s: %s does not hold every number from %s; give whole numbers or float64" % (where, dtype, RANGE)
         )
