@@ -26,7 +26,7 @@ from support import (
 )
 
 import reference
-from pigrozd import commandline, dumps, fileformat, limits, names
+from pigrozd import commandline, commands, dumps, fileformat, limits, names
 
 LINE = re.compile("([ 0-9]{8})  ((?:[0-9a-f]{2} ){0,15}[0-9a-f]{2})(?: |$)")
 POINT = re.compile(r"( {10,})\^\^ answer (\d+), detail (\d+): ")
@@ -455,6 +455,18 @@ class Unpacking(Folder):
         os.mkfifo(self.at("new/folder/readings.csv"))
         self.fails("readings.csv is no regular file", "unpack", "--force", self.at("out"), self.at("new/folder"))
 
+    def test_names_that_begin_with_a_dash(self):
+        """The command that is printed takes them as names and not as options."""
+        for table, attribute in (("-x", "-a"), ("--plan", "--text")):
+            with self.subTest(table):
+                csv_path = self.write(table + ".csv", "%s,b\none,1\n" % attribute)
+                self.command("pack", self.at("out"), "--text=" + attribute, csv_path)
+                data = self.read("out")
+                command, _ = self.command("unpack", self.at("out"), self.at("d" + table))
+                self.command(*shlex.split(command)[1:], "--force")
+                self.assertEqual(self.read("out"), data)
+        self.assertEqual(commands.command_text("dump", commands.operand("-x")), "pigrozd dump ./-x")
+
     def test_without_names(self):
         self.write("out", SAMPLE)
         self.command("unpack", self.at("out"), self.folder)
@@ -472,6 +484,7 @@ class Unpacking(Folder):
         )
         self.assertEqual(self.read("d/table2.csv"), b"a2,a3\n7,29510\n7,29510\n9,29530\n")
         self.fails("Not a directory|File exists", "unpack", self.write("good", SAMPLE), self.at("long"))
+        self.fails("refused 2 0: .*; a packed file is wanted here", "unpack", CSVS[0], self.at("d"), status=1)
 
     def test_bad_names(self):
         self.write("out", SAMPLE)
@@ -508,12 +521,20 @@ class RowsOfPrints(Folder):
 
     def test_refused(self):
         self.fails(
-            r"standard input: refused 9 0: the plan is not well-behaved: .*; pigrozd dump .*out --answer 9 0 shows",
+            r"standard input: refused 9 0: the plan is not well-behaved .*; pigrozd dump .*out --answer 9 0 shows",
             "rows",
             self.at("out"),
             stdin=b"refused 9 0\n",
             status=1,
         )
+        for pattern, text in {
+            r"10 96: the scratch is too short \(words needed: 96\); pigrozd join .*out has more room": "10 96",
+            "11 5: .*; pigrozd join .*out has more room": "11 5",
+            "13 65536: .*; pigrozd join .*out has more room": "13 65536",
+            "12 0: .*; it is never given": "12 0",
+        }.items():
+            stdin = ("refused %s\n" % text).encode()
+            self.fails("refused " + pattern, "rows", self.at("out"), stdin=stdin, status=1)
 
     def test_other_text(self):
         for pattern, text in {
@@ -525,6 +546,10 @@ class RowsOfPrints(Folder):
             "line 2: 3 values, but a result of .* has 4": "rows 1\n1 2 3\nsteps 1 1 1 1\n",
             "line 2: expected a row": "rows 1\n1 2 3 x\nsteps 1 1 1 1\n",
             "1 row and then steps expected": "rows 1\n1 2 3 4\nsteps 1 1 1 1\nsteps 1 1 1 1\n",
+            "line 2: expected a row, found '4294967296": "rows 1\n4294967296 2 3 4\nsteps 1 1 1 1\n",
+            "the last line has no end, so the print is not whole": "rows 1\n1 2 3 4\nsteps 1 1 1 1",
+            "the last line has no end": "refused 10 9",
+            "line 2: a refusal is one line, found 'rows": "refused 10 96\nrows 0\n",
         }.items():
             with self.subTest(pattern):
                 self.assertEqual(

@@ -138,7 +138,11 @@ class Joining(Folder):
         )
         bad = self.write("bad", samples()["p3_left_plan_joined_first"])
         self.fails("bad: refused 9 0: .*; pigrozd dump .*bad shows it", "join", bad, status=1)
-        self.fails("bad: refused 8 1: .*; pigrozd plan .*bad --plan 0 shows it", "join", bad, "--plan", "0", status=1)
+        self.fails("bad: refused 8 1: .* it leaves out table1 and table2$", "join", bad, "--plan", "0", status=1)
+        drawn = r"refused 9 0: .*; pigrozd plan .*bad --plan '\(0 .* shows it"
+        self.fails(drawn, "join", bad, "--plan", "(0 (2 1))", status=1)
+        cut = self.write("cut", SAMPLE[:50])
+        self.fails("refused 1 42: .*; pigrozd dump .*cut shows it", "join", cut, "--plan", "0", status=1)
         self.fails(
             "a packed file, not CSV; a packed file is joined alone",
             "join",

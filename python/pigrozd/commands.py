@@ -13,6 +13,7 @@ from .limits import PROGRAM_BYTES, PROGRAM_WORDS
 from .messages import InputError, count
 from .names import NAMES_ENDING, Names, digest, digest_in, fault_of_table_name, load_beside, names_beside, names_text
 from .streams import standard_input, tell, write_out
+from .values import value_of_text
 
 DONE, REFUSED, UNUSABLE = 0, 1, 2  # how a command ends
 
@@ -41,11 +42,29 @@ def refused_file(path: str, refused: Refused, plan: Optional[str] = None) -> int
     hint = ""
     if refused.number <= 2 and refused.detail == 0:
         hint = "; a CSV file's name ends in .csv"
-    elif refused.number <= LAST_OF_PLANS:
-        shown_by = ["plan", path, "--plan", plan] if plan is not None else ["dump", path]
-        hint = "; pigrozd %s shows it" % " ".join(map(shlex.quote, shown_by))
+        if path.lower().endswith(csvfiles.ENDING):
+            hint = "; a packed file is wanted here, and pigrozd pack makes one of CSV files"
+    elif refused.number <= LAST_OF_RECORDS or refused.number <= LAST_OF_PLANS and plan is None:
+        hint = "; %s shows it" % command_text("dump", operand(path))
+    elif refused.number == LAST_OF_PLANS and plan is not None:
+        hint = "; %s shows it" % command_text("plan", operand(path), *option("--plan", plan))
     tell("%s: %s%s" % (path, refused, hint))
     return REFUSED
+
+
+def command_text(*words: str) -> str:
+    """A command of pigrozd as a shell takes it."""
+    return " ".join(map(shlex.quote, ["pigrozd", *words]))
+
+
+def option(name: str, value: str) -> List[str]:
+    """An option of a command. A value that begins with a dash is tied to the name, or it would be an option itself."""
+    return [name + "=" + value] if value.startswith("-") else [name, value]
+
+
+def operand(path: str) -> str:
+    """A file's name in a command. One that begins with a dash gets its folder, or it would be an option."""
+    return os.path.join(os.curdir, path) if path.startswith("-") else path
 
 
 def load_inputs(a: Arguments) -> Tuple[bytes, Names]:
@@ -183,11 +202,11 @@ def command_to_pack(out: str, file: fileformat.File, names: Names, paths: Sequen
         [names.attribute(n) if n in used else "" for n in range(max(used, default=-1) + 1)]
     )
     plan = plans.to_text(file.plan, names) if file.plan else ""
-    command = ["pigrozd", "pack", out, "--plan", plan, "--attributes", attributes]
+    options = option("--plan", plan) + option("--attributes", attributes)
     texts = [names.attribute(n) for n in used if n in names.texts]
     if texts:
-        command += ["--text", csvfiles.csv_line(texts)]
-    return " ".join(shlex.quote(word) for word in [*command, *paths])
+        options += option("--text", csvfiles.csv_line(texts))
+    return command_text("pack", operand(out), *options, *map(operand, paths))
 
 
 # ---- rows
@@ -199,8 +218,7 @@ def rows(a: Arguments) -> int:
     try:
         found = printed_rows(files.load(a.print) if a.print else standard_input(), where)
     except Refused as refused:
-        answer = "%d %d" % (refused.number, refused.detail)
-        tell("%s: %s; pigrozd dump %s --answer %s shows the place" % (where, refused, shlex.quote(a.file), answer))
+        tell("%s: %s; %s" % (where, refused, what_helps(a.file, refused)))
         return REFUSED
     if file.fault:
         raise InputError("%s: %s; so it is not the file of this print" % (a.file, file.fault))
@@ -216,19 +234,33 @@ def rows(a: Arguments) -> int:
     return DONE
 
 
+def what_helps(path: str, refused: Refused) -> str:
+    """What to do about a refusal that the program printed for a file."""
+    if refused.number <= LAST_OF_PLANS:
+        answer = (str(refused.number), str(refused.detail))
+        return "%s shows the place" % command_text("dump", operand(path), "--answer", *answer)
+    if refused.number == 12:
+        return "it is never given, and docs/answers/12.md says what to look at"
+    return "%s has more room" % command_text("join", operand(path))
+
+
 def printed_rows(text: bytes, where: str) -> List[List[int]]:
-    """The rows in what the program printed."""
+    """The rows in what the program printed, if it is whole."""
     lines = text.decode("ascii", "replace").splitlines() or [""]
+    if text and not text.endswith(b"\n"):
+        raise InputError("%s: the last line has no end, so the print is not whole" % where)
     refused = re.fullmatch("refused ([0-9]{1,2}) ([0-9]{1,20})", lines[0])
     if refused and int(refused[1]) in MEANINGS and int(refused[1]) != 0:
-        raise Refused(int(refused[1]), int(refused[2]), "so the program said")
+        if len(lines) > 1:
+            raise InputError("%s, line 2: a refusal is one line, found %r" % (where, lines[1][:80]))
+        raise Refused(int(refused[1]), int(refused[2]))
     head = re.fullmatch("rows ([0-9]{1,7})", lines[0])
     if not head:
         raise InputError("%s, line 1: expected rows N or refused NUMBER DETAIL, found %r" % (where, lines[0][:80]))
     out = int(head[1])
     body, tail = lines[1 : 1 + out], lines[1 + out :]
     for at, line in enumerate(body, 2):
-        if not re.fullmatch("[0-9]{1,10}( [0-9]{1,10})*", line):
+        if not re.fullmatch("[0-9]+( [0-9]+)*", line) or None in map(value_of_text, line.split()):
             raise InputError("%s, line %d: expected a row, found %r" % (where, at, line[:80]))
     if len(tail) != 1 or not re.fullmatch("steps( [0-9]+){4}", tail[0]):
         raise InputError(
