@@ -200,7 +200,7 @@ class Packing(Folder):
         )
         self.refused("stands there twice", "--plan", SAMPLE_PLAN, "--attributes", "frame,frame", *CSVS)
         self.refused(
-            "at most 32 attributes",
+            "--attributes .*: exposure has the number 32, and the highest is 31",
             "--plan",
             SAMPLE_PLAN,
             "--attributes",
@@ -226,12 +226,31 @@ class Packing(Folder):
         self.assertEqual(names.names_beside(self.at("out"), self.read("out"), self.fail).attributes, {0: "a", 1: "b"})
 
     def test_values_refused(self):
-        for value in ("4294967296", "-1", "+1", "1.0", "1e3", "", "ten", "1_0", "0x10", "9" * 5000, "٣", "\0"):
+        for value in ("4294967296", "-1", "+1", "1.0", "1e3", "ten", "1_0", "0x10", "9" * 5000, "٣", "\0"):
             with self.subTest(value[:12]):
                 t = self.write("t.csv", "a,b\n1,2\n3,%s\n" % value)
                 self.refused(
                     r"t\.csv, line 3(, column 2 \(b\): .* is not a number from 0 to 4294967295|: not CSV: .*NUL)", t
                 )
+
+    def test_empty_cells_refused(self):
+        for cell in ("", " ", '""', "\t"):
+            t = self.write("t.csv", "a,b\n1,2\n3,%s\n" % cell)
+            self.refused(r"t\.csv, line 3, column 2 \(b\): the cell is empty, and what is missing cannot be joined", t)
+
+    def test_not_utf8(self):
+        """The line is told, wherever the file is cut into pieces when it is read."""
+        for line, content in (
+            (1, b"\xff,b\n1,2\n"),
+            (2, b"\xef\xbb\xbfa,b\n1,\xff\n3,4\n"),
+            (3, b"a,b\r1,2\r3,\xff\r"),
+            (3, b"a\r\n1\r\n\xc3"),
+            (3001, b"a\n" + b"4294967295\n" * 2999 + b"\xff\n"),
+            (3, b'a,b\n1,"' + b" " * 9000 + b'2"\n\xff,4\n'),
+        ):
+            with self.subTest(content[:20]):
+                t = self.write("t.csv", content)
+                self.refused(r"t\.csv, line %d: not UTF-8 text; save the file as UTF-8" % line, "--text", "a", t)
 
     def test_csv_files_refused(self):
         for pattern, content in {
@@ -244,7 +263,6 @@ class Packing(Folder):
             "line 4098: a table has at most 4,096 rows": "a\n" + "5\n" * 4097,
             "line 2: not CSV": 'a,b\n1,"2\n',
             "line 2: not CSV: field larger": "a\n" + "5" * 200000,
-            "not UTF-8": b"a,b\n1,\xff\n",
             "line 1, column 1: a line break": '"a\nb"\n',
             "a packed file, not CSV; a packed file is joined alone": SAMPLE,
         }.items():

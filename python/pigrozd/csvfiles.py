@@ -78,8 +78,9 @@ def read_lines(sheet: Sheet, text: Iterable[str]) -> None:
                 read_header(sheet, line, cells)
             elif cells:
                 read_row(sheet, line, cells)
-    except UnicodeDecodeError:
-        raise InputError("%s, behind line %d: not UTF-8 text" % (sheet.path, end)) from None
+    except UnicodeDecodeError as error:  # of a piece of the file that begins within the next line
+        line = reader.line_num + len((error.object[: error.start] + b".").splitlines())
+        raise InputError("%s, line %d: not UTF-8 text; save the file as UTF-8" % (sheet.path, line)) from None
     except csv.Error as error:
         raise InputError("%s, line %d: not CSV: %s" % (sheet.path, reader.line_num, error)) from None
 
@@ -130,6 +131,8 @@ def given_numbers(text: str) -> Dict[int, str]:
         fault = fault_of_attribute_name(name)
         if list(numbers.values()).index(name) != list(numbers).index(number):
             fault = "a name stands there twice"
+        if number >= ATTRIBUTE_NUMBERS:
+            fault = "%s has the number %d, and the highest is %d" % (name, number, ATTRIBUTE_NUMBERS - 1)
         if fault:
             raise InputError("--attributes %s: %s" % (text, fault))
     return numbers
@@ -206,9 +209,16 @@ def column_of(sheet: Sheet, attribute: int, names: Names) -> bytes:
         for line, row in zip(sheet.lines, sheet.rows):
             value = value_of_text(row[column])
             if value is None:
-                raise sheet.error(line, column, "%.60r is not a number from 0 to %d" % (row[column], LARGEST))
+                raise sheet.error(line, column, why_no_value(row[column]))
             values.append(value)
     return struct.pack("<%dI" % len(values), *values)
+
+
+def why_no_value(cell: str) -> str:
+    """Why a cell that holds no value is refused."""
+    if not cell.strip():
+        return "the cell is empty, and what is missing cannot be joined"
+    return "%.60r is not a number from 0 to %d" % (cell, LARGEST)
 
 
 def text_values(sheet: Sheet, column: int, texts: Dict[int, str]) -> List[int]:
