@@ -69,7 +69,7 @@ check-python: lib
 	$(PYTHON) tests/run.py test_library test_python test_formats test_install
 
 check-commands: lib
-	$(PYTHON) tests/run.py test_commands test_join test_damaged
+	$(PYTHON) tests/run.py test_commands test_join test_damaged test_documents
 
 .PHONY: lib check-users check-c check-python check-commands
 
