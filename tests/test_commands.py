@@ -1,5 +1,7 @@
 """Tests of the commands: pigrozd pack, unpack, rows, dump, plan. test_join.py has those of pigrozd join."""
+import contextlib
 import csv
+import io
 import os
 import random
 import re
@@ -356,6 +358,8 @@ class Packing(Folder):
             "p",
             self.write("x.csv", 'p\n"a\nb"\n'),
         )
+        zero = self.write("x.csv", "p\na\0b\n")
+        self.fails("line 2(, column 1 .*zero|: not CSV: .*NUL)", "pack", self.at("out2"), "--text", "p", zero)
 
 
 class Replacing(Folder):
@@ -686,6 +690,12 @@ class Usage(Folder):
             with self.subTest(pattern):
                 _, err = self.command(*arguments, status=2)
                 self.assertRegex(err, "usage: pigrozd(.|\n)*" + pattern)
+
+    def test_usage_without_standard_error(self):
+        out = io.StringIO()
+        with contextlib.redirect_stdout(out), contextlib.redirect_stderr(None):
+            self.assertEqual(commandline.main(["join"]), 2)
+        self.assertEqual(out.getvalue(), "")
 
     def test_help_and_version(self):
         self.assertRegex(self.command("--version")[0], r"^pigrozd \d+\.\d+\.\d+\n$")

@@ -5,7 +5,8 @@ written. 130: interrupted.
 """
 import argparse
 import functools
-from typing import Any, List, Optional, Sequence
+import sys
+from typing import Any, List, NoReturn, Optional, Sequence
 
 from . import __version__, commands
 from .answers import Refused
@@ -57,7 +58,13 @@ def take_files(parser: argparse.ArgumentParser, found: argparse.Namespace, unrea
 
 # ---- arguments
 class Parser(argparse.ArgumentParser):
-    """argparse's parser, which writes its help as the commands write: an error of the stream is one."""
+    """argparse's parser, which writes as the commands write: help to standard output, where an error of the stream is
+    one; wrong usage to standard error, also where that is closed."""
+
+    def error(self, message: str) -> NoReturn:
+        """Tells wrong usage, and ends."""
+        tell("%s%s: error: %s" % (self.format_usage(), self.prog, message), prefix="")
+        sys.exit(UNUSABLE)
 
     def print_help(self, file: Any = None) -> None:
         """Writes the help to standard output."""

@@ -227,8 +227,8 @@ def text_values(sheet: Sheet, column: int, texts: Dict[int, str]) -> List[int]:
     values = []
     for line, row in zip(sheet.lines, sheet.rows):
         text = row[column]
-        if re.search(r"[\r\n]", text):
-            raise sheet.error(line, column, "a text with a line break")
+        if re.search(r"[\r\n\0]", text):
+            raise sheet.error(line, column, "a text with a line break or a zero")
         values.append(numbers.setdefault(text, len(numbers)))
         texts[values[-1]] = text
     return values
