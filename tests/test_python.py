@@ -386,6 +386,7 @@ class Results(unittest.TestCase):
             "<Result: 4 rows, names ('frame', 'exposure', 'reading', "
             "'centikelvin'), Counts(entries=6, lookups=8, comparisons=19, visits=10)>",
         )
+        self.assertIn("<Result: 1 row, names", repr(pigrozd.join([{"x": [5]}])))
         wide = pigrozd.join([{"x%d" % i * 50: range(700) for i in range(8)}, {"y": range(9)}], (0, 1))
         self.assertLess(len(repr(wide)), 400)
 

@@ -4,6 +4,8 @@ import reprlib
 from dataclasses import dataclass
 from typing import Any, Dict, Iterator, NamedTuple, Tuple, Union
 
+from .messages import count
+
 Key = Union[str, int]  # what an attribute is called: its name, or its number
 
 
@@ -45,7 +47,7 @@ class Result:
         return self.rows
 
     def __repr__(self) -> str:
-        return "<Result: %d rows, names %s, %s>" % (self.rows, reprlib.repr(self.names), self.counts)
+        return "<Result: %s, names %s, %s>" % (count(self.rows, "row"), reprlib.repr(self.names), self.counts)
 
     def to_numpy(self) -> Any:
         """A NumPy structured array, one field of 32-bit words for each attribute. An attribute that has only a number
