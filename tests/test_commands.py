@@ -238,7 +238,10 @@ class Packing(Folder):
     def test_empty_cells_refused(self):
         for cell in ("", " ", '""', "\t"):
             t = self.write("t.csv", "a,b\n1,2\n3,%s\n" % cell)
-            self.refused(r"t\.csv, line 3, column 2 \(b\): the cell is empty, and what is missing cannot be joined", t)
+            for kind in ((), ("--text", "b")):
+                self.refused(
+                    r"t\.csv, line 3, column 2 \(b\): the cell is empty, and what is missing cannot be joined", *kind, t
+                )
 
     def test_not_utf8(self):
         """The line is told, wherever the file is cut into pieces when it is read."""
@@ -330,17 +333,17 @@ class Packing(Folder):
         self.assertEqual(self.read("out"), samples()["p2_second_and_third_table_swapped"])
 
     def test_texts(self):
-        left = self.write("left.csv", 'panel,state\nnorth,1\n"a ""b"", c",2\nsüd ,3\n,4\n')
-        right = self.write("right.csv", 'panel,side\nsüd ,in\nwest,out\n"a ""b"", c",in\n,out\n')
+        left = self.write("left.csv", 'panel,state\nnorth,1\n"a ""b"", c",2\nsüd ,3\nöst,4\n')
+        right = self.write("right.csv", 'panel,side\nsüd ,in\nwest,out\n"a ""b"", c",in\nöst,out\n')
         self.pack("--plan", "(left right)", "--text", "panel,side", left, right)
         self.assertEqual(
             self.read("out.names").decode(),
             self.digest_line("out") + "0 panel\n1 state\n2 side\ntable 0 left\n"
-            'table 1 right\ntext 0 0 north\ntext 0 1 a "b", c\ntext 0 2 süd \ntext 0 3 \ntext 0 4 west\n'
+            'table 1 right\ntext 0 0 north\ntext 0 1 a "b", c\ntext 0 2 süd \ntext 0 3 öst\ntext 0 4 west\n'
             "text 2 0 in\ntext 2 1 out\n",
         )
         printed = reference.printed(self.read("out")).encode()
-        rows = 'panel,state,side\n"a ""b"", c",2,in\nsüd ,3,in\n,4,out\n'
+        rows = 'panel,state,side\n"a ""b"", c",2,in\nsüd ,3,in\nöst,4,out\n'
         self.assertEqual(self.command("rows", self.at("out"), stdin=printed)[0], rows)
         self.assertEqual(self.command("join", self.at("out"))[0], rows)
         before = self.read("out"), self.read("out.names")

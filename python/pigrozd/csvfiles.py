@@ -15,6 +15,7 @@ from .names import Names, fault_of_attribute_name, fault_of_table_name
 from .values import LARGEST, value_of_text
 
 ENDING = ".csv"
+EMPTY_CELL = "the cell is empty, and what is missing cannot be joined"
 MOST_LINE = 2**20  # letters of a line that are read
 
 
@@ -217,7 +218,7 @@ def column_of(sheet: Sheet, attribute: int, names: Names) -> bytes:
 def why_no_value(cell: str) -> str:
     """Why a cell that holds no value is refused."""
     if not cell.strip():
-        return "the cell is empty, and what is missing cannot be joined"
+        return EMPTY_CELL
     return "%.60r is not a number from 0 to %d" % (cell, LARGEST)
 
 
@@ -227,6 +228,8 @@ def text_values(sheet: Sheet, column: int, texts: Dict[int, str]) -> List[int]:
     values = []
     for line, row in zip(sheet.lines, sheet.rows):
         text = row[column]
+        if not text.strip():
+            raise sheet.error(line, column, EMPTY_CELL)
         if re.search(r"[\r\n\0]", text):
             raise sheet.error(line, column, "a text with a line break or a zero")
         values.append(numbers.setdefault(text, len(numbers)))
