@@ -238,10 +238,9 @@ class Packing(Folder):
     def test_empty_cells_refused(self):
         for cell in ("", " ", '""', "\t"):
             t = self.write("t.csv", "a,b\n1,2\n3,%s\n" % cell)
+            why = r"t\.csv, line 3, column 2 \(b\): the cell is empty, and what is missing cannot be joined"
             for kind in ((), ("--text", "b")):
-                self.refused(
-                    r"t\.csv, line 3, column 2 \(b\): the cell is empty, and what is missing cannot be joined", *kind, t
-                )
+                self.refused(why, *kind, t)
 
     def test_not_utf8(self):
         """The line is told, wherever the file is cut into pieces when it is read."""
