@@ -56,10 +56,10 @@ class Calls(unittest.TestCase):
         self.assertEqual("".join(text).splitlines(), load("crates", "samples", "stdout").decode().splitlines())
 
     def test_random_files(self):
-        """Small files, whole and damaged, against the independent join."""
-        chance, numbers = random.Random(7), collections.Counter()
-        for _ in range(400):
-            file = bytearray(pigrozd.make_file(*drawn_tables(chance)))
+        """400 small files, whole and damaged, against the independent join. In every second one values are missing."""
+        chance, numbers, missing = random.Random(7), collections.Counter(), 0
+        for index in range(400):
+            file = bytearray(pigrozd.make_file(*drawn_tables(chance, 0.2 * (index % 2))))
             if chance.random() < 0.3:
                 file[chance.randrange(len(file))] = chance.choice((0, 1, 2, 255))
             scratch, output = chance.choice((1000, 40)), chance.choice((300, 12))
@@ -72,8 +72,10 @@ class Calls(unittest.TestCase):
                     (fault.number, fault.detail) if fault else (0, 0), (number, detail) if number <= 9 else (0, 0)
                 )
             numbers[number] += 1
+            missing += number == 0 and reference.NOT_RECORDED.to_bytes(4, "little") in file
         self.assertGreater(numbers[0], 50)
         self.assertGreater(len(numbers), 6)
+        self.assertGreater(missing, 50)
 
     def test_buffers(self):
         good = words(*range(100))
@@ -111,13 +113,17 @@ class Calls(unittest.TestCase):
         self.assertNotEqual(ctypes.addressof(lent), 0)
 
 
-def drawn_tables(chance):
-    """A few small tables and a plan that names each once."""
+def drawn_tables(chance, missing):
+    """A few small tables and a plan that names each once. This part of their values was not recorded."""
+
+    def value():
+        return reference.NOT_RECORDED if chance.random() < missing else chance.randint(0, 2)
+
     tables = []
     for _ in range(chance.randint(1, 4)):
         rows = chance.randint(0, 4)
         attributes = chance.sample(range(4), chance.randint(1, 3))
-        tables.append({a: [chance.randint(0, 2) for _ in range(rows)] for a in attributes})
+        tables.append({a: [value() for _ in range(rows)] for a in attributes})
     drawn = list(range(len(tables)))
     chance.shuffle(drawn)
     while len(drawn) > 1:
