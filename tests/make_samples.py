@@ -21,7 +21,7 @@ import random
 import reference
 
 TOP = os.path.join(os.path.dirname(os.path.abspath(__file__)), os.pardir)
-LARGEST = 4294967295
+LARGEST = 4294967295  # a number of rows; as a value it means not recorded
 BEFORE = 2779096485  # what the test program fills both buffers with; no sample may hold it as a value
 
 samples = []
@@ -209,7 +209,7 @@ def key_samples():
         rights = [row + [200 + i] * len(right) for i, row in enumerate(rows[::-1] + [base])]
         names = ("no", "one", "two", "three", "four", "five", "six", "seven", "eight")
         sample("key_of_%s_attributes" % names[k], file([table(shared + left, *lefts), table(shared + right, *rights)], FF, 0, 1))
-    sample("key_on_attribute_31", file([table((0, 31), (1, LARGEST), (2, 3), (4, 0)), table((1, 31), (8, 3), (9, LARGEST))], FF, 0, 1))
+    sample("key_on_attribute_31", file([table((0, 31), (1, LARGEST - 1), (2, 3), (4, 0)), table((1, 31), (8, 3), (9, LARGEST - 1))], FF, 0, 1))
     high = [(i << 16,) for i in range(40)]  # a path of 16 nodes before any bit differs
     sample("key_shares_low_bits", file([table((0,), *high[::3]), table((0,), *high)], FF, 0, 1))
     tops = [(0,), (1 << 31,), (1 << 30,), (3 << 30,), (1 << 29,), (5 << 29,)]
@@ -223,7 +223,8 @@ def key_samples():
     sought = [(1 << 31, 9), (0, 5), (1 << 31, 4), (1 << 31, 1), (3 << 30, 1), (0, 1)]
     sample("key_bits_30_and_31_decide_the_way", file([table((0, 1), *sought), table((0, 1), *bits[::-1])], FF, 0, 1))
     sample("key_words_swapped", file([table((0, 1), (1, 2), (2, 1), (1, 1)), table((0, 1), (2, 1), (2, 2), (1, 2))], FF, 0, 1))
-    sample("key_values_0_and_largest", file([table((0,), (0,), (LARGEST,)), table((0,), (LARGEST,), (0,), (LARGEST,))], FF, 0, 1))
+    largest = (LARGEST - 1,)
+    sample("key_values_0_and_largest", file([table((0,), (0,), largest), table((0,), largest, (0,), largest)], FF, 0, 1))
     sample("key_that_no_other_table_holds", file([table((0, 1), (1, 1), (2, 2)), table((1, 2), (3, 1), (4, 2))], FF, 0, 1))
     sample("key_bytes_all_differ", file([table((0,), (0x01020304,), (0x04030201,)), table((0, 1), (0x04030201, 0x0A0B0C0D), (0x01020304, 1))], FF, 0, 1))
     inner = [table((0, 1), (1, 5), (2, 6), (2, 5)), table((0, 2), (1, 7), (2, 8), (2, 9)), table((0, 1), (2, 6), (1, 5), (2, 7))]
@@ -232,6 +233,40 @@ def key_samples():
     sample("rows_4096_looked_up", file([table((0,), *[(v,) for v in tree]), table((0, 1), (tree[0], 7), (tree[4095], 8), (5000, 9))], FF, 0, 1), 40000)
     sample("rows_4096_entered", file([table((0, 1), (tree[9], 7), (5000, 8), (tree[2000], 9)), table((0,), *[(v,) for v in tree])], FF, 0, 1), 40000)
     sample("rows_4096_and_an_empty_table", file([table((0,), *[(v,) for v in tree]), table((0,))], FF, 0, 1), 40000)
+
+
+# ---- values that were not recorded
+W = LARGEST
+
+
+def unrecorded_samples():
+    x, y, xy = (0,), (1,), (0, 1)
+    sample("unrecorded_never_matches_itself", file([table(xy, (1, W), (2, 3), (4, 0)), table((1, 2), (3, 8), (W, 9))], FF, 0, 1))
+    outer = [table(xy, (1, W), (1, 2)), table(x, (1,)), table(y, (2,))]
+    sample("unrecorded_at_the_outer_join", file(outer, FF, FF, 0, 1, 2))
+    # row (1, W) takes part in the right plan, where y is in one table only, and is not entered at the join outside it
+    sample("unrecorded_inside_the_right_plan", file([outer[2], *outer[:2]], FF, 0, FF, 1, 2))
+    # the same row takes no part where y is in both tables of the right plan
+    sample("unrecorded_shared_in_the_right_plan", file([table(x, (1,), (1,)), outer[0], table(y, (W,), (2,))], FF, 0, FF, 1, 2))
+    twos = [(1, 2), (W, 2), (1, W), (W, W)]
+    lefts, rights = (table((0, 1, a), *[(*row, i) for i, row in enumerate(twos)]) for a in (2, 3))
+    sample("unrecorded_first_last_both_of_two", file([lefts, rights], FF, 0, 1))
+    for n, name in ((3, "three"), (8, "eight")):
+        keys = [[5] * i + [W] + [5] * (n - i - 1) for i in range(n)] + [[5] * n]
+        sample("unrecorded_in_each_of_%s" % name, file([table(range(n), *keys), table(range(n), *keys[::-1])], FF, 0, 1))
+    sample("unrecorded_in_one_table_only", file([table(xy, (7, W), (8, 2)), table((0, 2), (8, W), (7, 3))], FF, 0, 1))
+    sample("unrecorded_in_one_table", file([table(xy, (W, W), (W, 1))], 0))
+    sample("unrecorded_in_tables_apart", file([table(x, (W,), (1,)), table(y, (W,), (W,))], FF, 0, 1))
+    never = table(x, (W,), (W,), (W,))
+    sample("unrecorded_in_every_key_entered", file([table(x, (1,), (W,), (2,)), never], FF, 0, 1))
+    sample("unrecorded_in_every_key_looked_up", file([never, table(x, (1,), (W,), (2,))], FF, 0, 1))
+    sample("unrecorded_in_every_key", file([never, never], FF, 0, 1))
+    sample("unrecorded_beside_an_empty_table", file([never, table(x)], FF, 0, 1))
+    two_joins = [table(xy, (W, W), (1, W), (W, 2), (1, 2)), table((0, 2), (1, 5), (W, 6)), table((1, 3), (2, 7), (W, 8))]
+    sample("unrecorded_at_two_joins_of_one_row", file(two_joins, FF, FF, 0, 1, 2))
+    sample("unrecorded_at_two_joins_right_deep", file([two_joins[1], two_joins[0], two_joins[2]], FF, 0, FF, 1, 2))
+    sample("unrecorded_between_repeated_rows", file([table(x, (5,), (W,), (5,)), table(x, (W,), (5,), (W,), (5,))], FF, 0, 1))
+    sample("unrecorded_beside_its_neighbours", file([table(x, (W - 1,), (W,), (0,)), table(x, (0,), (W,), (W - 1,))], FF, 0, 1))
 
 
 def row_samples():
@@ -346,7 +381,7 @@ def after(answer, scratch):
 
 
 def main():
-    for make in (bench_samples, cut_samples, record_samples, plan_samples, buffer_samples, key_samples, row_samples, many_table_samples, tree_samples):
+    for make in (bench_samples, cut_samples, record_samples, plan_samples, buffer_samples, key_samples, unrecorded_samples, row_samples, many_table_samples, tree_samples):
         make()
     folder = os.path.join(TOP, "crates/samples/data")
     os.makedirs(folder, exist_ok=True)

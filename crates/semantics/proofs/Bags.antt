@@ -8,25 +8,31 @@ use native.Mathlib.Nat.{mul-one}
 use lib.ListN.{length, take, length-map}
 use lib.Dec.{eqb}
 use borrow.Author.Tests.{eqb-true}
-use Rattle.semantics.specs.Lists.{Each, same, all, any, filter, consIf, nonEmpty, product, concatMap, upTo}
+use Rattle.semantics.specs.Lists.{Each, same, all, any, filter, consIf, nonEmpty, several, product, concatMap, upTo}
 use Rattle.semantics.specs.Plans.{Plan, scan, join, tables}
 use Rattle.semantics.specs.Shapes.{attributes, holds}
-use Rattle.semantics.specs.Results.{Base, Pick, equal, choices, valuesIn, agrees, results, tuple}
+use Rattle.semantics.specs.Results.{Base, Pick, recorded, valuesMatch, valuesAgree, choices, valuesIn, agrees, results, tuple}
 use Rattle.semantics.specs.Enumeration.{headOf}
-use Rattle.semantics.specs.Bags.{rowHas, repeats, tupleOf, multiplicity}
+use Rattle.semantics.specs.Bags.{rowHas, repeats, tupleOf, sharedRecorded, multiplicity}
 use Rattle.semantics.proofs.Cases.{cases}
-use Rattle.semantics.proofs.Lists.{each, Each-map, Each-filter, map-consIf, all-and, all-append, true-all, filter-map, filter-filter, filter-each, product-append, count-pairs}
+use Rattle.semantics.proofs.Lists.{each, Each-map, Each-filter, map-consIf, all-and, all-append, true-all, filter-map, filter-filter, filter-each, filter-false, nonEmpty-filter, product-append, count-pairs}
 use Rattle.semantics.proofs.Choices.{choices-named}
+
+-- values that agree are equal, and recorded where there are several
+agree-recorded : (z : ℕ) (zs : List ℕ) → valuesAgree (z ∷ zs) ≡ (all (eqb z) zs && (not (nonEmpty zs) || recorded z))
+agree-recorded z [] = refl
+agree-recorded z (y ∷ zs) =
+    cases (eqb z y) (λ h. cases (recorded z) (λ g. rw (h, g) (agree-recorded z zs ∙ rw g (cases (nonEmpty zs) (λ n. rw n) (λ n. rw n)))) (λ g. rw (h, g) (sym (and-false (all (eqb z) zs))))) (λ h. rw h)
 
 -- the values vs of one attribute, of which v's is w: A and the tuples ks, ts stand for the attributes after it
 one-attribute : (w : ℕ) (vs : List ℕ) (b A : Bool) (ks ts : List ℕ) (R : Bool) → nonEmpty vs ≡ b → (A && same ks ts) ≡ R
-    → (equal vs && A && same (consIf b w ks) (take 1 vs ++ ts)) ≡ (all (eqb w) vs && R)
+    → (valuesAgree vs && A && same (consIf b w ks) (take 1 vs ++ ts)) ≡ ((all (eqb w) vs && (not (several vs) || recorded w)) && R)
 one-attribute w [] b A ks ts R h e = rw (← h) e
 one-attribute w (z ∷ zs) b A ks ts R h e =
-    rw (← h, ← e)
+    rw (← h, ← e, agree-recorded z zs)
     (cases (eqb w z)
-    (λ g. rw g (rw (eqb-true w z g) (cases (all (eqb z) zs) (λ x. rw x) (λ x. rw x))))
-    (λ g. rw g (and-false (all (eqb z) zs && A))))
+    (λ g. rw g (rw (eqb-true w z g) (cases (all (eqb z) zs && (not (nonEmpty zs) || recorded z)) (λ x. rw x) (λ x. rw x))))
+    (λ g. rw g (and-false (all (eqb z) zs && (not (nonEmpty zs) || recorded z) && A))))
 
 first-value : (vs : List ℕ) (b : Bool) (ts : List ℕ) → nonEmpty vs ≡ b → take 1 vs ++ ts ≡ consIf b (headOf vs) ts
 first-value [] b ts h = rw (← h)
@@ -41,6 +47,11 @@ module _ (D : Base) where
   held-values : (a : ℕ) (p : Plan) (c : List Pick) → map (λ x. x .table) c ≡ tables p → nonEmpty (valuesIn D a c) ≡ holds (D .shape) p a
   unfolding holds
   held-values a p c h = nonEmpty-values a c ∙ ap (any (λ t. D .shape .has t a)) h
+
+  several-values : (a : ℕ) (c : List Pick) → several (valuesIn D a c) ≡ several (filter (λ t. D .shape .has t a) (map (λ x. x .table) c))
+  several-values a [] = refl
+  several-values a (x ∷ c) =
+      cases (D .shape .has (x .table) a) (λ h. rw h (nonEmpty-values a c ∙ sym (nonEmpty-filter (λ t. D .shape .has t a) (map (λ x. x .table) c)))) (λ h. rw h (several-values a c))
 
   module _ (v : ℕ → ℕ) where
     -- the choice has v's values in all tables
@@ -60,21 +71,25 @@ module _ (D : Base) where
 
     -- the values of an attribute, equal among themselves and to v's, one attribute at a time
     agreeing : (p : Plan) (c : List Pick) → map (λ x. x .table) c ≡ tables p → (ks : List ℕ)
-        → (all (λ a. equal (valuesIn D a c)) ks && same (map v (filter (holds (D .shape) p) ks)) (concatMap (λ a. take 1 (valuesIn D a c)) ks)) ≡ all (λ a. all (eqb (v a)) (valuesIn D a c)) ks
+        → (all (λ a. valuesAgree (valuesIn D a c)) ks && same (map v (filter (holds (D .shape) p) ks)) (concatMap (λ a. take 1 (valuesIn D a c)) ks)) ≡ all (λ a. all (eqb (v a)) (valuesIn D a c) && (not (several (valuesIn D a c)) || recorded (v a))) ks
     agreeing p c n [] = refl
     agreeing p c n (a ∷ ks) =
         rw (map-consIf v (holds (D .shape) p a) a (filter (holds (D .shape) p) ks))
-        (one-attribute (v a) (valuesIn D a c) (holds (D .shape) p a) (all (λ a. equal (valuesIn D a c)) ks) (map v (filter (holds (D .shape) p) ks)) (concatMap (λ a. take 1 (valuesIn D a c)) ks)
-        (all (λ a. all (eqb (v a)) (valuesIn D a c)) ks) (held-values a p c n) (agreeing p c n ks))
+        (one-attribute (v a) (valuesIn D a c) (holds (D .shape) p a) (all (λ a. valuesAgree (valuesIn D a c)) ks) (map v (filter (holds (D .shape) p) ks)) (concatMap (λ a. take 1 (valuesIn D a c)) ks)
+        (all (λ a. all (eqb (v a)) (valuesIn D a c) && (not (several (valuesIn D a c)) || recorded (v a))) ks) (held-values a p c n) (agreeing p c n ks))
 
-    -- a choice agrees and has v's tuple exactly if all of its rows have v's values
-    agrees-tuple : (p : Plan) (c : List Pick) → map (λ x. x .table) c ≡ tables p → (agrees D c && same (tupleOf D v p) (tuple D c)) ≡ choiceHas c
-    unfolding agrees tuple tupleOf
-    agrees-tuple p c n = agreeing p c n attributes ∙ values-of c
+    -- a choice agrees and has v's tuple exactly if all of its rows have v's values, and these are recorded where they are joined
+    agrees-tuple : (p : Plan) (c : List Pick) → map (λ x. x .table) c ≡ tables p → (agrees D c && same (tupleOf D v p) (tuple D c)) ≡ (choiceHas c && sharedRecorded D v p)
+    unfolding agrees tuple tupleOf sharedRecorded
+    agrees-tuple p c n =
+        agreeing p c n attributes
+        ∙ all-and (λ a. all (eqb (v a)) (valuesIn D a c)) (λ a. not (several (valuesIn D a c)) || recorded (v a)) attributes
+        ∙ ap₂ (λ a b. a && b) (values-of c)
+        (ap (λ f. all f attributes) (fun-ext (λ a. ap (λ b. not b || recorded (v a)) (several-values a c ∙ ap (λ ts. several (filter (λ t. D .shape .has t a) ts)) n))))
 
     -- the choices with v's values are counted table by table
-    count-choices : (p : Plan) → length (filter choiceHas (choices D p)) ≡ multiplicity D v p
-    unfolding multiplicity repeats
+    count-choices : (p : Plan) → length (filter choiceHas (choices D p)) ≡ product (repeats D v) (tables p)
+    unfolding repeats
     count-choices (scan t) =
         ap length (filter-map choiceHas (λ y. record { table = t; row = y } ∷ []) (upTo (D .shape .rows t)))
         ∙ length-map (filter (λ y. rowHas D v t y && true) (upTo (D .shape .rows t))) (λ y. record { table = t; row = y } ∷ [])
@@ -89,15 +104,17 @@ module _ (D : Base) where
 
     -- THE BAG MEANING: v's tuple stands in the result as often as the product of its repeats
     pub bag-meaning : (p : Plan) → length (filter (same (tupleOf D v p)) (map (tuple D) (results D p))) ≡ multiplicity D v p
-    unfolding results
+    unfolding results multiplicity
     bag-meaning p =
         ap length (filter-map (same (tupleOf D v p)) (tuple D) (filter (agrees D) (choices D p)))
         ∙ length-map (filter (λ c. same (tupleOf D v p) (tuple D c)) (filter (agrees D) (choices D p))) (tuple D)
         ∙ ap length
         (sym (filter-filter (agrees D) (λ c. same (tupleOf D v p) (tuple D c)) (choices D p))
-        ∙ filter-each (λ c. agrees D c && same (tupleOf D v p) (tuple D c)) choiceHas (choices D p)
-        (Each-map (λ c. map (λ x. x .table) c ≡ tables p) (λ c. (agrees D c && same (tupleOf D v p) (tuple D c)) ≡ choiceHas c) (agrees-tuple p) (choices D p) (choices-named D p)))
-        ∙ count-choices p
+        ∙ filter-each (λ c. agrees D c && same (tupleOf D v p) (tuple D c)) (λ c. choiceHas c && sharedRecorded D v p) (choices D p)
+        (Each-map (λ c. map (λ x. x .table) c ≡ tables p) (λ c. (agrees D c && same (tupleOf D v p) (tuple D c)) ≡ (choiceHas c && sharedRecorded D v p)) (agrees-tuple p) (choices D p) (choices-named D p)))
+        ∙ cases (sharedRecorded D v p)
+        (λ h. rw (h, multiplicity) (ap (λ q. length (filter q (choices D p))) (fun-ext (λ c. and-true (choiceHas c))) ∙ count-choices p))
+        (λ h. rw (h, multiplicity) (ap (λ q. length (filter q (choices D p))) (fun-ext (λ c. and-false (choiceHas c))) ∙ ap length (filter-false (choices D p))))
 
   -- every tuple of the result is the tuple of some values, so none is added
   abbrev pub valuesOf : List Pick → ℕ → ℕ

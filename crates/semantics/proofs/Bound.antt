@@ -9,7 +9,7 @@ use lib.ListN.{length, length-append, length-map}
 use Rattle.semantics.specs.Lists.{Each, any, sum, filter, from, upTo}
 use Rattle.semantics.specs.Plans.{Plan, scan, join, tables, leftmost}
 use Rattle.semantics.specs.Shapes.{joinAttributes, widestKey}
-use Rattle.semantics.specs.Results.{Base, rowNumbers, uses, results, participants, key, leftKey, rightKey}
+use Rattle.semantics.specs.Results.{Base, rowNumbers, uses, results, participants, key, leftKey, rightKey, recordedKey, entered, walked}
 use Rattle.semantics.specs.SearchTrees.{Words, compared}
 use Rattle.semantics.specs.Counts.{visitsAfter, enteredKeys, soughtKeys, entries, lookups, comparisons, visits}
 use Rattle.semantics.proofs.Lists.{each, Each-of-map, sum-append, length-filter}
@@ -52,11 +52,20 @@ module _ (D : Base) where
   unfolding participants upTo
   participants-le p = omega (arith, length-filter (λ y. any (uses y) (results D p)) (from 0 (D .shape .rows (leftmost p))), length-from 0 (D .shape .rows (leftmost p)), first-le p)
 
+  -- a row that has "not recorded" in its key is not entered, and its lookup does not walk
+  entered-fewer : (l r : Plan) → length (entered D l r) ≤ length (participants D r)
+  unfolding entered
+  entered-fewer l r = length-filter _ (participants D r)
+
+  walked-fewer : (l r : Plan) → length (walked D l r) ≤ length (participants D l)
+  unfolding walked
+  walked-fewer l r = length-filter _ (participants D l)
+
   entered-le : (p : Plan) → entries D p + lookups D p ≤ joins p * rowsOf p
   unfolding entries lookups
   entered-le (scan t) = omega arith
   entered-le (join l r) =
-      omega (arith, entered-le l, entered-le r, participants-le l, participants-le r, spread (joins l) (joins r) (rowsOf l) (rowsOf r), ap (λ n. suc (joins l + joins r) * n) (rowsOf-join l r))
+      omega (arith, entered-le l, entered-le r, entered-fewer l r, participants-le l, participants-le r, spread (joins l) (joins r) (rowsOf l) (rowsOf r), ap (λ n. suc (joins l + joins r) * n) (rowsOf-join l r))
 
   -- values fit 32 bits
   module _ (small : (t a y : ℕ) → D .val t a y < 2 ^ 32) where
@@ -66,11 +75,14 @@ module _ (D : Base) where
         Each-of-map (Words (length ks)) (key D ks t) ys
         (each (λ y. Words (length ks) (key D ks t y)) (λ y. (length-map ks (λ a. D .val t a y), Each-of-map (λ w. w < 2 ^ 32) (λ a. D .val t a y) ks (each (λ a. D .val t a y < 2 ^ 32) (λ a. small t a y) ks))) ys)
 
-    compared-join : (l r : Plan) → compared (enteredKeys D l r) (soughtKeys D l r) ≤ suc (32 * length (joinAttributes (D .shape) l r)) * (length (participants D r) + length (participants D l))
+    compared-join : (l r : Plan) → compared (enteredKeys D l r) (soughtKeys D l r) ≤ suc (32 * length (joinAttributes (D .shape) l r)) * (length (entered D l r) + length (walked D l r))
     unfolding enteredKeys soughtKeys leftKey rightKey
     compared-join l r =
-        rw (← length-map (participants D r) (key D (joinAttributes (D .shape) l r) (leftmost r)), ← length-map (participants D l) (key D (joinAttributes (D .shape) l r) (leftmost l)))
-        (compared-le (length (joinAttributes (D .shape) l r)) (enteredKeys D l r) (soughtKeys D l r) (keys-words (joinAttributes (D .shape) l r) (leftmost r) (participants D r)) (keys-words (joinAttributes (D .shape) l r) (leftmost l) (participants D l)))
+        rw (← length-map (entered D l r) (key D (joinAttributes (D .shape) l r) (leftmost r)), ← length-map (walked D l r) (key D (joinAttributes (D .shape) l r) (leftmost l)))
+        (compared-le (length (joinAttributes (D .shape) l r)) (enteredKeys D l r) (soughtKeys D l r) (keys-words (joinAttributes (D .shape) l r) (leftmost r) (entered D l r)) (keys-words (joinAttributes (D .shape) l r) (leftmost l) (walked D l r)))
+
+    fewer : (l r : Plan) → length (entered D l r) + length (walked D l r) ≤ length (entered D l r) + length (participants D l)
+    fewer l r = omega (arith, walked-fewer l r)
 
     comparisons-join : (l r : Plan) → comparisons D (join l r) ≡ compared (enteredKeys D l r) (soughtKeys D l r) + (comparisons D l + comparisons D r)
     unfolding comparisons
@@ -79,12 +91,12 @@ module _ (D : Base) where
     comparisons-le : (a : ℕ) (p : Plan) → widestKey (D .shape) p ≤ a → comparisons D p ≤ suc (32 * a) * (entries D p + lookups D p)
     comparisons-le a (scan t) h = unfold comparisons in omega arith
     comparisons-le a (join l r) h =
-        let x : ℕ = length (participants D r) + length (participants D l) in
+        let x : ℕ = length (entered D l r) + length (participants D l) in
         let y : ℕ = entries D l + lookups D l in
         let z : ℕ = entries D r + lookups D r in
         let e : entries D (join l r) + lookups D (join l r) ≡ x + y + z = unfold entries lookups in omega arith in
         rw e
-        (omega (arith, comparisons-join l r, compared-join l r, wider (length (joinAttributes (D .shape) l r)) a x (omega arith), comparisons-le a l (omega arith), comparisons-le a r (omega arith), mul-add (suc (32 * a)) (x + y) z, mul-add (suc (32 * a)) x y))
+        (omega (arith, comparisons-join l r, compared-join l r, mul-le-mul-left (suc (32 * length (joinAttributes (D .shape) l r))) (fewer l r), wider (length (joinAttributes (D .shape) l r)) a x (omega arith), comparisons-le a l (omega arith), comparisons-le a r (omega arith), mul-add (suc (32 * a)) (x + y) z, mul-add (suc (32 * a)) x y))
 
     -- THE BOUND, of a plan's tables
     pub bound : (p : Plan) (w : ℕ)

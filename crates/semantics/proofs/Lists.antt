@@ -8,7 +8,7 @@ use native.Mathlib.Nat.{zero-add, zero-mul, suc-mul, mul-assoc}
 use lib.ListN.{length, getD, length-append, length-map}
 use lib.Dec.{eqb}
 use borrow.Author.Tests.{eqb-true, eq-eqb, ne-eqb}
-use Rattle.semantics.specs.Lists.{oneIf, Each, same, any, all, sum, product, filter, consIf, onlyIf, nonEmpty, concatMap}
+use Rattle.semantics.specs.Lists.{oneIf, Each, same, any, all, sum, product, filter, consIf, onlyIf, nonEmpty, several, concatMap}
 use Rattle.semantics.proofs.Cases.{cases, true-false}
 
 module _ {A : Type 0} where
@@ -223,6 +223,19 @@ module _ {A B : Type 0} where
   pub any-map : (q : B → Bool) (f : A → B) (xs : List A) → any q (map f xs) ≡ any (λ x. q (f x)) xs
   any-map q f [] = refl
   any-map q f (x ∷ xs) = ap (λ b. q (f x) || b) (any-map q f xs)
+
+  pub several-alike : (xs : List A) (ys : List B) → length xs ≡ length ys → several xs ≡ several ys
+  several-alike [] [] e = refl
+  several-alike [] (y ∷ ys) e = absurd (omega (arith, e))
+  several-alike (x ∷ xs) [] e = absurd (omega (arith, e))
+  several-alike (x ∷ []) (y ∷ []) e = refl
+  several-alike (x ∷ []) (y ∷ u ∷ ys) e = absurd (omega (arith, e))
+  several-alike (x ∷ z ∷ xs) (y ∷ []) e = absurd (omega (arith, e))
+  several-alike (x ∷ z ∷ xs) (y ∷ u ∷ ys) e = refl
+
+  pub all-map : (q : B → Bool) (f : A → B) (xs : List A) → all q (map f xs) ≡ all (λ x. q (f x)) xs
+  all-map q f [] = refl
+  all-map q f (x ∷ xs) = ap (λ b. q (f x) && b) (all-map q f xs)
 
   pub sum-map : (g : B → ℕ) (f : A → B) (xs : List A) → sum g (map f xs) ≡ sum (λ x. g (f x)) xs
   sum-map g f [] = refl

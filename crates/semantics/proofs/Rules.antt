@@ -8,13 +8,13 @@ use native.Mathlib.Omega.{arith}
 use lib.ListN.{length, getD}
 use lib.Dec.{eqb, ltb}
 use borrow.Author.Tests.{ltb-true, ltb-false, lt-ltb, le-ltb}
-use Rattle.semantics.specs.Lists.{oneIf, any, sum, from}
+use Rattle.semantics.specs.Lists.{oneIf, any, sum, filter, from}
 use Rattle.semantics.specs.Files.{Table, hasBit, Reading, fault, planBytes, read}
 use Rattle.semantics.specs.Plans.{Plan, tables, misplaced, planOf, misnamed}
 use Rattle.semantics.specs.Shapes.{noTable, shapeOf, holds, illBehaved, rowsIn, scratchNeed}
 use Rattle.semantics.specs.Outcome.{Verdict, refused, admitted, planVerdict, readVerdict, rulesVerdict, scratchVerdict, verdict, WithinRules}
 use Rattle.semantics.proofs.Cases.{cases, option-cases}
-use Rattle.semantics.proofs.Lists.{sum-one, any-sum}
+use Rattle.semantics.proofs.Lists.{sum-one, any-sum, length-filter-sum}
 use Rattle.semantics.proofs.Numbers.{length-from, sum-shift}
 use Rattle.semantics.proofs.Reading.{ending-cases, fault-number}
 use Rattle.semantics.proofs.Spelling.{spelled-out}
@@ -135,3 +135,12 @@ holds-file ts p w a =
     any-sum (λ i. hasBit ((getD ts i noTable) .mask) a) (tables p)
     ∙ ap (λ n. not (eqb n 0)) (w .sums (λ i. oneIf (hasBit ((getD ts i noTable) .mask) a)) ∙ sum-tables (λ t. oneIf (hasBit (t .mask) a)) ts)
     ∙ sym (any-sum (λ t. hasBit (t .mask) a) ts)
+
+-- as many of the plan's tables have an attribute as of the file's
+pub holders-file : (ts : List Table) (p : Plan) → WithinRules ts p → (a : ℕ) → length (filter (λ t. (shapeOf ts) .has t a) (tables p)) ≡ length (filter (λ t. hasBit (t .mask) a) ts)
+unfolding shapeOf
+holders-file ts p w a =
+    length-filter-sum (λ i. hasBit ((getD ts i noTable) .mask) a) (tables p)
+    ∙ w .sums (λ i. oneIf (hasBit ((getD ts i noTable) .mask) a))
+    ∙ sum-tables (λ t. oneIf (hasBit (t .mask) a)) ts
+    ∙ sym (length-filter-sum (λ t. hasBit (t .mask) a) ts)

@@ -40,6 +40,11 @@ module _ {A : Type 0} where
   nonEmpty [] = false
   nonEmpty (x ∷ xs) = true
 
+  -- there are two elements or more
+  abbrev pub several : List A → Bool
+  several [] = false
+  several (x ∷ xs) = nonEmpty xs
+
   -- the list where the test passed, else none
   abbrev pub onlyIf : Bool → List A → List A
   onlyIf true l = l
