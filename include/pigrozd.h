@@ -43,6 +43,10 @@
 /* As the detail of PIGROZD_OUTPUT_SHORT: so many results or more. */
 #define PIGROZD_HOLD_LIMIT 4294967295u
 
+/* As a value, in a file and in output: not recorded. It matches nothing, not even itself: no result uses a row that holds it
+ * in an attribute that two tables of the plan share. In an attribute of one table alone it passes through. */
+#define PIGROZD_NOT_RECORDED 4294967295u
+
 /* The largest lengths that a caller may give: bytes of file; words of scratch, and of output. */
 #define PIGROZD_MOST_BYTES 9223372036854775807u
 #define PIGROZD_MOST_WORDS 2305843009213693951u

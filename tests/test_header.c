@@ -1,5 +1,6 @@
 /* Tests include/pigrozd.h as C99 and as C++ against the library: that each name of an answer is the number that is given under
- * its condition, that the limits are those at which answers change, and that the version is said alike everywhere.
+ * its condition, that the limits are those at which answers change, that a value which was not recorded matches nothing, and
+ * that the version is said alike everywhere.
  * make check-c runs it. It prints nothing and ends with 0, or prints each test that failed and ends with 1. */
 #include "pigrozd.h"
 
@@ -214,6 +215,51 @@ static void test_limits(void)
     EXPECT_ANSWER(PIGROZD_OUTPUT_SHORT, PIGROZD_HOLD_LIMIT);
 }
 
+/* a table of one row, with these values in the attributes of its mask */
+static void put_row(uint32_t mask, uint32_t first, uint32_t second)
+{
+    put_table(mask, 1);
+    put_word(first);
+    put_word(second);
+}
+
+/* a value that was not recorded: in a shared attribute it matches nothing, in one table alone it passes through */
+static void test_not_recorded(void)
+{
+    pigrozd_answer given;
+
+    EXPECT(PIGROZD_NOT_RECORDED, (uint32_t)-1);
+
+    length = 0;
+    put_row(3, 7, PIGROZD_NOT_RECORDED);
+    put_row(6, PIGROZD_NOT_RECORDED, 9);
+    put_plan("\377\0\1", 3);
+    given = answer();
+    EXPECT(given.number, PIGROZD_JOINED);
+    EXPECT(given.rows, 0);
+    EXPECT(given.entries, 0);
+    EXPECT(given.lookups, 1);
+    EXPECT(given.comparisons, 0);
+
+    length = 0;
+    put_row(3, PIGROZD_NOT_RECORDED, 8);
+    put_row(6, 8, PIGROZD_NOT_RECORDED);
+    put_plan("\377\0\1", 3);
+    given = answer();
+    EXPECT(given.number, PIGROZD_JOINED);
+    EXPECT(given.rows, 1);
+    EXPECT(output[0], PIGROZD_NOT_RECORDED);
+    EXPECT(output[1], 8);
+    EXPECT(output[2], PIGROZD_NOT_RECORDED);
+
+    length = 0;
+    put_table(1, 1);
+    put_word(PIGROZD_NOT_RECORDED);
+    put_plan("\0", 1);
+    EXPECT(answer().rows, 1);
+    EXPECT(output[0], PIGROZD_NOT_RECORDED);
+}
+
 static void test_lengths(void)
 {
     EXPECT(PIGROZD_MOST_BYTES, (uint64_t)-1 / 2);
@@ -233,6 +279,7 @@ int main(void)
 {
     test_answers();
     test_limits();
+    test_not_recorded();
     test_lengths();
     test_version();
     return failures == 0 ? 0 : 1;

@@ -1,6 +1,6 @@
 #!/bin/sh
-# Tests that pages say what include/pigrozd.h says: names and numbers of the answers, limits, version; and that links of the
-# documents lead somewhere. make check-c runs it from the top of the repository.
+# Tests that pages say what include/pigrozd.h says: names and numbers of the answers, limits, the word of a value that was not
+# recorded, version; and that links of the documents lead somewhere. make check-c runs it from the top of the repository.
 set -u
 room=$(mktemp -d) || exit 1
 trap 'rm -rf "$room"' EXIT
@@ -29,6 +29,15 @@ sed -n 's/^#define \(PIGROZD_MOST_[A-Z_]*\|PIGROZD_HOLD_LIMIT\) \([0-9]*\).*/\1 
     grep -v -e PIGROZD_MOST_BYTES -e PIGROZD_MOST_WORDS >"$room/limits"
 sed -n 's/^\(PIGROZD_[A-Z_]*\)	\([0-9]*\)	.*/\1 \2/p' man/pigrozd_join.3 | tail -n +14 >"$room/manual"
 same 'the manual page has other limits' limits manual
+
+# the word of a value that was not recorded
+word=$(sed -n 's/^#define PIGROZD_NOT_RECORDED \([0-9]*\)u$/\1/p' include/pigrozd.h)
+says() { # PAGE WORDS
+    grep -q "$2" "$1" || { echo "test_pages: $1 does not say: $2"; failures=$((failures + 1)); }
+}
+says man/pigrozd_join.3 "PIGROZD_NOT_RECORDED, $word, is a value that"
+says man/pigrozd-file.1 "^The value $word means not recorded"
+says docs/answers/00.md "the program prints $word"
 
 # the version
 version=$(sed -n 's/^#define PIGROZD_VERSION "\(.*\)"$/\1/p' include/pigrozd.h)

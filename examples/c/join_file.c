@@ -1,6 +1,7 @@
 /* Joins the file on standard input, of any size that the rules allow, and prints what the proved program prints. Both buffers
  * are as large as the join says: it is asked without any first. Ends with 0 joined, 1 refused, 2 where the file could not be
- * read, memory not be had or the answer not be written.
+ * read, memory not be had or the answer not be written. A value that was not recorded is printed as the word that output holds
+ * for it, PIGROZD_NOT_RECORDED: 4294967295.
  *
  *     cc -Iinclude -o join_file examples/c/join_file.c target/lib/libpigrozd.a
  *     ./join_file < crates/pigrozd/stdin
