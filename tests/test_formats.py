@@ -7,6 +7,7 @@ from support import SAMPLE, Folder, damaged, expected, load, path, samples
 import reference
 from pigrozd import MEANINGS, InputError, csvfiles, fileformat, names, plans
 from pigrozd.drawing import Drawing
+from pigrozd.values import values_of
 
 
 def answer_of(data):
@@ -42,7 +43,7 @@ class Reading(unittest.TestCase):
                     self.assertEqual(reference.outcome(data, need - 1, 0)[:2], (10, need))
                 self.assertEqual(
                     [file.values(t, place) for t in file.tables for place in range(len(t.attributes))],
-                    [t.columns[a] for t in tables for a in sorted(t.columns)],
+                    [values_of(t.columns[a]) for t in tables for a in sorted(t.columns)],
                 )
                 keys = {join.index: plans.key(join, file.tables) for join in plans.joins_of(file.plan)}
                 plan = reference.parse(code)[0]
@@ -163,6 +164,8 @@ class NamesOfFiles(Folder):
             "line 3: 'frame' is named already": "# names\n0 frame\n1 frame\n",
             "line 1: an attribute without a name": "0  \n",
             "line 1: expected NUMBER NAME ?": "sha256 123\n",
+            "line 1: the number is too high$": "text 1 4294967295 dark\n",
+            "line 1: the text is empty, and an empty cell is a value that was not recorded": "text 1 7 \n",
             "not UTF-8": b"0 \xff\n",
         }.items():
             with self.subTest(pattern), self.assertRaisesRegex(InputError, r"file\.names.*" + pattern):
@@ -181,7 +184,7 @@ class CsvNames(unittest.TestCase):
 
 class OnePlace(unittest.TestCase):
     def test_one_place_for_each_meaning(self):
-        """The marks of records and the words of an answer stand in one module of the package each."""
+        """The marks of records, the words of an answer and the numbers with a meaning stand in one module each."""
         modules = {
             name: load("python", "pigrozd", name).decode()
             for name in os.listdir(path("python", "pigrozd"))
@@ -190,6 +193,8 @@ class OnePlace(unittest.TestCase):
         told = {meaning.means: "answers.py" for number, meaning in MEANINGS.items() if number}
         for text, module in {'b"TB"': "fileformat.py", 'b"PL"': "fileformat.py", **told}.items():
             self.assertEqual([name for name in modules if text in modules[name]], [module], text)
+        number = sorted(name for name in modules if "4294967295" in modules[name])
+        self.assertEqual(number, ["limits.py", "values.py"])  # the highest count; the word of what was not recorded
 
 
 if __name__ == "__main__":

@@ -1,4 +1,5 @@
 """Tests of pigrozd join, and of how a command ends whatever happens to its streams."""
+import csv
 import os
 import random
 import signal
@@ -11,6 +12,7 @@ import unittest
 from support import CSVS, ROWS, SAMPLE, SAMPLE_PLAN, Folder, path, samples
 
 import reference
+from pigrozd import NOT_RECORDED
 
 
 class Joining(Folder):
@@ -45,7 +47,8 @@ class Joining(Folder):
                 with self.subTest(name):
                     status, out, err = self.run_here("join", self.write("file", data))
                     if number == 0:
-                        self.assertEqual([list(map(int, line.split(","))) for line in out.splitlines()[1:]], rows)
+                        cells = list(csv.reader(out.splitlines()))[1:]
+                        self.assertEqual([[int(cell or NOT_RECORDED) for cell in row] for row in cells], rows)
                         done += 1
                     elif number not in (10, 11):
                         self.assertEqual((status, out), (1, ""))
@@ -184,7 +187,7 @@ class FullSize(Folder):
         draw = random.Random(5).randrange
         a = [(draw(9000), draw(6000)) for _ in range(4096)]
         b = [(draw(6000), draw(5000)) for _ in range(4096)]
-        c = [(draw(5000), draw(2**32)) for _ in range(4096)]
+        c = [(draw(5000), draw(NOT_RECORDED)) for _ in range(4096)]
         files = [self.table("a", "w,x", a), self.table("b", "x,y", b), self.table("c", "y,z", c)]
         out = self.at("out.csv")
         self.command("join", *files, "--plan", "(a (b c))", "-o", out)
@@ -298,7 +301,7 @@ class Streams(Folder):
     def test_full_disk(self):
         """A file that cannot be written in full is not put in place of the one before."""
         self.command("join", CSVS[0], "-o", self.at("out.csv"))
-        big = self.write("big.csv", "x\n" + "4294967295\n" * 4096)
+        big = self.write("big.csv", "x\n" + "4294967294\n" * 4096)
         done = self.shell("ulimit -f 8; $pigrozd join %s -o out.csv" % big)
         self.assertEqual((done.returncode, done.stderr), (2, b"pigrozd: out.csv: File too large\n"))
         self.assertEqual(self.read("out.csv").count(b"\n"), 5)

@@ -117,7 +117,7 @@ def drawn_tables(chance, missing):
     """A few small tables and a plan that names each once. This part of their values was not recorded."""
 
     def value():
-        return reference.NOT_RECORDED if chance.random() < missing else chance.randint(0, 2)
+        return None if chance.random() < missing else chance.randint(0, 2)
 
     tables = []
     for _ in range(chance.randint(1, 4)):

@@ -109,7 +109,7 @@ class Joins(unittest.TestCase):
 
 
 class Values(unittest.TestCase):
-    VALUES = [7, 0, 4294967295, 7]
+    VALUES = [7, 0, 4294967294, 7]
 
     def check(self, column, values=None):
         values = self.VALUES if values is None else values
@@ -130,7 +130,7 @@ class Values(unittest.TestCase):
         self.check(tuple(self.VALUES))
         self.check(collections.deque(self.VALUES))
         self.check(range(5), range(5))
-        self.check([7.0, 0.0, 4294967295.0], [7, 0, 4294967295])
+        self.check([7.0, 0.0, 4294967294.0], [7, 0, 4294967294])
         self.check({1: 7, 2: 8}.values(), [7, 8])
 
     def test_buffers(self):
@@ -146,31 +146,23 @@ class Values(unittest.TestCase):
         self.check((ctypes.c_uint32.__ctype_be__ * 4)(*self.VALUES))
 
     def test_every_other_word(self):
-        self.check(memoryview(words(7, 1, 0, 1, 4294967295, 1, 7, 1))[::2])
+        self.check(memoryview(words(7, 1, 0, 1, 4294967294, 1, 7, 1))[::2])
         self.check(memoryview(words(*self.VALUES))[::-1], self.VALUES[::-1])
 
     def test_wrong_numbers(self):
         for value in (-1, 4294967296, 2**80, -2.0, 4294967296.0, 2**40000):
-            self.refused(ValueError, r", row 1: .* is not in 0 to 4,294,967,295", [1, value])
+            self.refused(ValueError, r", row 1: .* is not in 0 to 4,294,967,294", [1, value])
         for column in (array.array("i", [1, -1]), array.array("Q", [1, 2**32])):
-            self.refused(ValueError, r", row 1: .* is not in 0 to 4,294,967,295", column)
+            self.refused(ValueError, r", row 1: .* is not in 0 to 4,294,967,294", column)
         for value in (1.5, float("inf"), -float("inf")):
             self.refused(ValueError, r", row 2: .* is not a whole number", [1, 2, value])
 
     def test_what_is_no_number(self):
-        signal = decimal.Decimal("sNaN")  # it can be compared with nothing
-        for value in ("1", b"1", [1], decimal.Decimal(1), signal, 1j, object(), datetime.date(2026, 1, 1)):
+        decimals = map(decimal.Decimal, ("1", "NaN", "sNaN"))
+        for value in ("1", b"1", [1], [None], *decimals, 1j, object(), datetime.date(2026, 1, 1)):
             self.refused(TypeError, r", row 1: .* is not a whole number", [1, value])
         for value in (True, False):
             self.refused(TypeError, r", row 1: .* is a truth value, not a number", [1, value])
-
-    def test_missing_values(self):
-        for value in (None, float("nan"), decimal.Decimal("nan")):
-            self.refused(
-                ValueError,
-                r", row 1: .* stands for a missing value, and what is missing cannot be joined",
-                [1, value],
-            )
 
     def test_what_has_no_order(self):
         for column in ({1, 2}, frozenset((1, 2)), {1: 2}.keys(), {1: 2}.items()):
@@ -425,7 +417,7 @@ class Files(Folder):
 
 @needs_numpy
 class NumPy(unittest.TestCase):
-    VALUES = [7, 0, 4294967295, 7]
+    VALUES = [7, 0, 4294967294, 7]
 
     def check(self, column, values):
         self.assertEqual(list(pigrozd.join([{0: column}], 0).columns[0]), values)
@@ -446,33 +438,17 @@ class NumPy(unittest.TestCase):
     def test_refused_columns(self):
         self.refused(ValueError, ", row 0: -1 is not in", numpy.array([-1]))
         self.refused(ValueError, ", row 1: 2.5 is not a whole number", numpy.array([2, 2.5]))
-        self.refused(ValueError, ", row 1: nan stands for a missing value", numpy.array([2, numpy.nan]))
-        self.refused(ValueError, ", row 1: None stands for a missing value", numpy.array([2, None]))
-        self.refused(
-            ValueError, ", row 0: NaT stands for a missing value", numpy.array(["NaT"], dtype="datetime64[s]")
-        )
         for kind in ("float16", "float32"):
             self.refused(TypeError, ": %s does not hold every number" % kind, numpy.zeros(1, dtype=kind))
         self.refused(TypeError, ": a column holds whole numbers, not truth values", numpy.zeros(1, dtype="bool"))
-        for kind in ("datetime64[s]", "timedelta64[s]", "S4", "U4", "V4", "complex128", "longdouble"):
-            self.refused(TypeError, "", numpy.zeros(1, dtype=kind))
+        self.refused(TypeError, ": a column holds whole numbers, not dates", numpy.zeros(1, dtype="datetime64[s]"))
+        for kind in ("timedelta64[s]", "S4", "U4", "V4", "complex128", "longdouble"):
+            self.refused(TypeError, ": a column holds whole numbers, not ", numpy.zeros(1, dtype=kind))
         with warnings.catch_warnings():
             warnings.simplefilter("error")
             self.refused(TypeError, ", row 1: True is a truth value, not a number", [1, numpy.bool_(True)])
         self.refused(ValueError, ": a column has one dimension, not 2", numpy.zeros((2, 2), dtype="uint32"))
         self.refused(ValueError, ": a column has one dimension, not 0", numpy.array(5))
-
-    def test_masked_arrays(self):
-        column = numpy.ma.array([1, 2, 3], mask=[0, 0, 1], dtype="uint32")
-        self.refused(ValueError, ", row 2: a masked value, and what is missing cannot be joined", column)
-        self.refused(ValueError, ", row 2: -- stands for a missing value", list(column))
-        self.refused(ValueError, ", row 1: -- stands for a missing value", [1, numpy.ma.array(1, mask=True)])
-        self.check([1, numpy.ma.array(1)], [1, 1])
-        self.check(numpy.ma.array([1, 2, 3], dtype="uint32"), [1, 2, 3])
-        self.check(numpy.ma.array([1, 2, 3], mask=[0, 0, 0]), [1, 2, 3])
-        table = numpy.ma.array([(1, 2), (3, 4)], mask=[(0, 0), (0, 1)], dtype=[("a", "u4"), ("b", "u4")])
-        with self.assertRaisesRegex(ValueError, "table 0, column b, row 1: a masked value"):
-            pigrozd.join([table], 0)
 
     def test_structured_arrays(self):
         frames = numpy.array(list(zip(*FRAMES.values())), dtype=[("frame", "u4"), ("exposure", "i8")])
@@ -544,19 +520,15 @@ class Pandas(unittest.TestCase):
             pigrozd.join([pandas.DataFrame({"x": column})])
 
     def test_refused_columns(self):
-        self.refused(ValueError, ", row 1: nan stands for a missing value", [1, None])
-        self.refused(ValueError, ", row 1: <NA> stands for a missing value", pandas.array([1, None], dtype="Int64"))
-        self.refused(ValueError, ", row 1: nan stands for a missing value", pandas.Categorical([1, None]))
-        self.refused(ValueError, ", row 0: NaT stands for a missing value", [pandas.NaT, pandas.Timestamp(0)])
         self.refused(ValueError, ", row 0: 1.5 is not a whole number", [1.5])
         self.refused(ValueError, ", row 1: -1 is not in", [1, -1])
-        self.refused(TypeError, ", row 0: True is a truth value", [True])
-        self.refused(TypeError, ", row 0: .*Timestamp", [pandas.Timestamp(0)])
+        self.refused(TypeError, ": a column holds whole numbers, not truth values", [True])
+        self.refused(TypeError, ": a column holds whole numbers, not dates", [pandas.Timestamp(0)])
+        self.refused(TypeError, ", row 1: Timestamp.* is not a whole number", [1, pandas.Timestamp(0)])
         self.refused(TypeError, ", row 0: '1'", ["1"])
         self.refused(TypeError, ": [Ff]loat32 does not hold every number", pandas.Series([1], dtype="float32"))
         sparse = pandas.SparseDtype("float32")
         self.refused(TypeError, ": float32 does not hold every number", pandas.Series([1], dtype=sparse))
-        self.refused(ValueError, ", row 1: nan stands", pandas.Series([1, None], dtype=pandas.SparseDtype("float64")))
 
     def test_refused_frames(self):
         twice = pandas.DataFrame([[1, 2]], columns=["x", "x"])

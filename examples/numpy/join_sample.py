@@ -20,11 +20,10 @@ for frame in numpy.unique(table["frame"]):
 # Frame 13 has an exposure that no table knows, so it is in no row.
 print("without a reading:", numpy.setdiff1d(frames["frame"], table["frame"]).tolist())
 
-# What is missing is not joined: give only the rows that are there.
-measured = numpy.ma.masked_equal(readings["centikelvin"], 29530)
-try:
-    pigrozd.join({"readings": {"reading": readings["reading"], "centikelvin": measured}})
-except ValueError as error:
-    print("refused:", error)
-there = readings[~measured.mask]
-print("rows with what is there:", len(pigrozd.join(dict(tables, readings=there), "(frames (exposures readings))")))
+# A masked element was not recorded. It comes back masked if its field is in one table only; else it matches nothing.
+tables["readings"] = numpy.ma.array(readings, mask=[(False, False), (False, False), (False, True)])
+table = pigrozd.join(tables, "(frames (exposures readings))").to_numpy()
+print("not recorded for frames:", table["frame"][table["centikelvin"].mask].tolist())
+print("mean of what was recorded: %.2f K" % (table["centikelvin"].mean() / 100))
+tables["readings"] = numpy.ma.array(readings, mask=[(True, False), (False, False), (False, False)])
+print("rows without the first reading:", len(pigrozd.join(tables, "(frames (exposures readings))")))

@@ -12,7 +12,8 @@
     list(result)[0]             # (10, 1, 7, 29510)
     result.columns["frame"]     # array('I', [10, 10, 11, 12])
 
-Columns with one name, in different tables, are joined. What cannot be joined raises Refused, TypeError or ValueError.
+Columns with one name, in different tables, are joined. None is a value that was not recorded: it matches nothing, and
+comes back where its column is in one table only. What cannot be joined raises Refused, TypeError or ValueError.
 docs/PYTHON.md says more; `python3 -m pigrozd --help` joins CSV files.
 """
 from .answers import MEANINGS, Refused
@@ -20,6 +21,7 @@ from .joining import join, join_file, make_file
 from .library import Answer, LibraryError, call
 from .messages import InputError
 from .results import Counts, Result
+from .values import NOT_RECORDED
 
 __version__ = "0.1.0"
 __all__ = [
@@ -34,5 +36,6 @@ __all__ = [
     "InputError",
     "LibraryError",
     "MEANINGS",
+    "NOT_RECORDED",
     "__version__",
 ]

@@ -13,6 +13,7 @@ from .answers import Refused
 from .commands import REFUSED, UNUSABLE
 from .messages import InputError
 from .streams import PROGRAM, tell, write_out
+from .values import LARGEST
 
 ABOUT = """Joins tables. `pigrozd join a.csv b.csv --plan '(a b)'` joins CSV files; the other commands are for packed
 files: tables and a plan in one file, as document 01 says. `pigrozd COMMAND --help` says more of each, docs/TOOLS.md
@@ -118,8 +119,8 @@ def add_join(subparsers: Any) -> None:
         commands.join,
         "Joins CSV files, or one packed file, and writes the rows as CSV. The first line "
         "of a CSV file has the names of its attributes; attributes with one name are joined. A table is called as "
-        "its file, without folder and ending. Values are 0 to 4294967295. One file whose name does not end in .csv "
-        "is a packed file.",
+        "its file, without folder and ending. Values are 0 to %d; an empty cell is a value that was not recorded, and "
+        "matches nothing. One file whose name does not end in .csv is a packed file." % LARGEST,
     )
     p.add_argument(
         "files", metavar="FILE", nargs="+", help="CSV files, up to 16 of up to 4,096 rows; or a packed file"

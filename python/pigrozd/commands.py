@@ -13,7 +13,7 @@ from .limits import PROGRAM_BYTES, PROGRAM_WORDS
 from .messages import InputError, count
 from .names import NAMES_ENDING, Names, digest, digest_in, fault_of_table_name, load_beside, names_beside, names_text
 from .streams import standard_input, tell, write_out
-from .values import value_of_text
+from .values import values_of, word_of_text
 
 DONE, REFUSED, UNUSABLE = 0, 1, 2  # how a command ends
 
@@ -229,7 +229,7 @@ def rows(a: Arguments) -> int:
                 "%s, line %d: %s, but a result of %s has %d"
                 % (where, at, count(len(row), "value"), a.file, len(attributes))
             )
-    columns = [(n, [row[place] for row in found]) for place, n in enumerate(attributes)]
+    columns = [(n, values_of(row[place] for row in found)) for place, n in enumerate(attributes)]
     write_out(csvfiles.columns_text(columns, names))
     return DONE
 
@@ -245,7 +245,7 @@ def what_helps(path: str, refused: Refused) -> str:
 
 
 def printed_rows(text: bytes, where: str) -> List[List[int]]:
-    """The rows in what the program printed, if it is whole."""
+    """The rows of words in what the program printed, if it is whole."""
     lines = text.decode("ascii", "replace").splitlines() or [""]
     if text and not text.endswith(b"\n"):
         raise InputError("%s: the last line has no end, so the print is not whole" % where)
@@ -260,7 +260,7 @@ def printed_rows(text: bytes, where: str) -> List[List[int]]:
     out = int(head[1])
     body, tail = lines[1 : 1 + out], lines[1 + out :]
     for at, line in enumerate(body, 2):
-        if not re.fullmatch("[0-9]+( [0-9]+)*", line) or None in map(value_of_text, line.split()):
+        if not re.fullmatch("[0-9]+( [0-9]+)*", line) or None in map(word_of_text, line.split()):
             raise InputError("%s, line %d: expected a row, found %r" % (where, at, line[:80]))
     if len(tail) != 1 or not re.fullmatch("steps( [0-9]+){4}", tail[0]):
         raise InputError(

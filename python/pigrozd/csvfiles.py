@@ -12,10 +12,9 @@ from .fileformat import PLAN_MARK, TABLE_MARK, File, Table, plan_record, table_r
 from .limits import ATTRIBUTE_NUMBERS, MOST_ATTRIBUTES, MOST_ROWS, MOST_TABLES
 from .messages import InputError, count
 from .names import Names, fault_of_attribute_name, fault_of_table_name
-from .values import LARGEST, value_of_text
+from .values import LARGEST, NO_VALUE, NOT_RECORDED, Values, word_of_text
 
 ENDING = ".csv"
-EMPTY_CELL = "the cell is empty, and what is missing cannot be joined"
 MOST_LINE = 2**20  # letters of a line that are read
 
 
@@ -201,40 +200,35 @@ def record_of(sheet: Sheet, names: Names) -> bytes:
 
 
 def column_of(sheet: Sheet, attribute: int, names: Names) -> bytes:
-    """A column's values as words. Texts get numbers, those of `names` first."""
+    """A column's values as words. Texts get numbers, those of `names` first. An empty cell was not recorded."""
     column = sheet.header.index(names.attributes[attribute])
-    if attribute in names.texts:
-        values = text_values(sheet, column, names.texts[attribute])
-    else:
-        values = []
-        for line, row in zip(sheet.lines, sheet.rows):
-            value = value_of_text(row[column])
-            if value is None:
-                raise sheet.error(line, column, why_no_value(row[column]))
-            values.append(value)
-    return struct.pack("<%dI" % len(values), *values)
-
-
-def why_no_value(cell: str) -> str:
-    """Why a cell that holds no value is refused."""
-    if not cell.strip():
-        return EMPTY_CELL
-    return "%.60r is not a number from 0 to %d" % (cell, LARGEST)
-
-
-def text_values(sheet: Sheet, column: int, texts: Dict[int, str]) -> List[int]:
-    """The numbers of a column's texts. Texts that are new are taken into `texts`."""
-    numbers = {text: number for number, text in texts.items()}
-    values = []
+    texts = names.texts.get(attribute)
+    numbers = {text: number for number, text in texts.items()} if texts is not None else None
+    words = []
     for line, row in zip(sheet.lines, sheet.rows):
-        text = row[column]
-        if not text.strip():
-            raise sheet.error(line, column, EMPTY_CELL)
-        if re.search(r"[\r\n\0]", text):
-            raise sheet.error(line, column, "a text with a line break or a zero")
-        values.append(numbers.setdefault(text, len(numbers)))
-        texts[values[-1]] = text
-    return values
+        try:
+            words.append(word_of_cell(row[column], numbers))
+        except InputError as error:
+            raise sheet.error(line, column, str(error)) from None
+    if texts is not None and numbers is not None:
+        texts.update((number, text) for text, number in numbers.items())
+    return struct.pack("<%dI" % len(words), *words)
+
+
+def word_of_cell(cell: str, numbers: Optional[Dict[str, int]]) -> int:
+    """The word of a cell. If it holds a text, its number is in `numbers`, and a new text is taken into them."""
+    if not cell.strip():
+        return NOT_RECORDED
+    if numbers is not None:
+        if re.search(r"[\r\n\0]", cell):
+            raise InputError("a text with a line break or a zero")
+        return numbers.setdefault(cell, len(numbers))
+    word = word_of_text(cell)
+    if word == NOT_RECORDED:
+        raise InputError(NO_VALUE + "; leave the cell empty instead")
+    if word is None:
+        raise InputError("%.60r is not a number from 0 to %d" % (cell, LARGEST))
+    return word
 
 
 # ---- writing
@@ -254,8 +248,8 @@ def csv_line(cells: Sequence[str]) -> str:
     return text.getvalue()
 
 
-def columns_text(columns: Sequence[Tuple[int, Sequence[int]]], names: Names) -> str:
-    """CSV of columns, each with its attribute."""
+def columns_text(columns: Sequence[Tuple[int, Values]], names: Names) -> str:
+    """CSV of columns, each with its attribute. The cell of a value that was not recorded is empty."""
     shown = [shown_values(values, attribute, names) for attribute, values in columns]
     return csv_text([names.attribute(attribute) for attribute, _ in columns], zip(*shown))
 
@@ -265,15 +259,15 @@ def table_text(file: File, table: Table, names: Names) -> str:
     return columns_text([(a, file.values(table, place)) for place, a in enumerate(table.attributes)], names)
 
 
-def shown_values(values: Sequence[int], attribute: int, names: Names) -> Sequence[Any]:
-    """The values of an attribute as CSV shows them: as numbers, or as the texts that they stand for."""
+def shown_values(values: Values, attribute: int, names: Names) -> Sequence[Any]:
+    """The values of an attribute as CSV shows them: as numbers or as the texts that they stand for, and None."""
     texts = names.texts.get(attribute)
     if texts is None:
         return values
     for value in values:
-        if value not in texts:
+        if value is not None and value not in texts:
             raise InputError(
                 "value %d of attribute %d %s stands for no text in the file of names"
                 % (value, attribute, names.attribute(attribute))
             )
-    return [texts[value] for value in values]
+    return [None if value is None else texts[value] for value in values]

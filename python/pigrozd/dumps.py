@@ -7,6 +7,7 @@ from .fileformat import File
 from .limits import MOST_ATTRIBUTES, MOST_ROWS, PROGRAM_BYTES
 from .messages import count
 from .names import Names
+from .values import NOT_RECORDED
 
 PER_LINE = 16
 FIRST_LINES = 3  # of a long column, this many lines and the last one are shown
@@ -85,7 +86,7 @@ class Dump:
         """What describes the values of a column that begins at an offset."""
 
         def describe(a: int, b: int) -> str:
-            values = [str(fileformat.number_at(self.file.data, i)) for i in range(a, b - 3, 4)]
+            values = [word_in_words(fileformat.number_at(self.file.data, i)) for i in range(a, b - 3, 4)]
             first = (a - start) // 4
             last = first + len(values) - 1
             where = "row %d" % first if first >= last else "rows %d to %d" % (first, last)
@@ -138,6 +139,11 @@ def shortened(lines: int, marked: Optional[int]) -> List[int]:
     if lines <= FIRST_LINES + 2:
         return list(here)
     return sorted({*here[:FIRST_LINES], here[-1]} | ({marked} if marked is not None else set()))
+
+
+def word_in_words(word: int) -> str:
+    """What a word of a column says."""
+    return "(not recorded)" if word == NOT_RECORDED else str(word)
 
 
 def plan_in_words(code: bytes, file: File, names: Names) -> List[str]:

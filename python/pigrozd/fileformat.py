@@ -10,6 +10,7 @@ from .answers import LAST_OF_PLANS, LAST_OF_RECORDS, Refused
 from .limits import ATTRIBUTE_NUMBERS, MOST_ATTRIBUTES, MOST_ROWS, MOST_TABLES
 from .names import Names
 from .messages import count
+from .values import values_of
 
 TABLE_MARK, PLAN_MARK = b"TB", b"PL"
 HEAD = 10  # bytes of a table record before its columns: mark, mask, row count
@@ -49,10 +50,10 @@ class File:
         self.plan: Optional[plans.Plan] = None
         self.fault: Optional[Refused] = None
 
-    def values(self, table: Table, place: int) -> List[int]:
-        """The values of a table's column."""
+    def values(self, table: Table, place: int) -> List[Optional[int]]:
+        """The values of a table's column, None for what was not recorded."""
         start, end = table.column(place)
-        return list(struct.unpack("<%dI" % table.rows, self.data[start:end]))
+        return values_of(struct.unpack("<%dI" % table.rows, self.data[start:end]))
 
     def row_count(self) -> int:
         """The rows of all tables together."""

@@ -13,6 +13,7 @@ from .messages import InputError, count
 from .names import Names, names_beside
 from .results import Key, Result
 from .tables import GivenTables, records_of
+from .values import Values, column_of_words
 
 
 def join(tables: GivenTables, plan: Optional[plans.GivenPlan] = None) -> Result:
@@ -20,7 +21,7 @@ def join(tables: GivenTables, plan: Optional[plans.GivenPlan] = None) -> Result:
 
     tables: a list of tables, or a mapping of table names to tables. A table is a mapping of attributes to columns, a
     pandas DataFrame, a NumPy structured array, or a Result. An attribute is a name or a number from 0 to 31, in all
-    tables alike.
+    tables alike. None, NaN and masked values are not recorded: they match nothing, and come back as None.
 
     plan: a table's name or number, or a pair of plans, such as ("frames", ("exposures", "readings")); or a text, such
     as "(frames (exposures readings))"; or the plan's bytes, as a file has them. With one table it may be left out.
@@ -69,7 +70,9 @@ def join_bytes(data: bytes, names: Names, keys: Optional[Dict[int, Key]] = None)
         raise refusal(answer, file, names)
     attributes = plans.width(file.tables)
     end = answer.rows * len(attributes)
-    columns = {keys[a] if keys else a: output[place : end : len(attributes)] for place, a in enumerate(attributes)}
+    columns: Dict[Key, Values] = {}
+    for place, a in enumerate(attributes):
+        columns[keys[a] if keys else a] = column_of_words(output[place : end : len(attributes)])
     return Result(columns, answer.rows, answer.entries, answer.lookups, answer.comparisons, answer.visits)
 
 

@@ -113,6 +113,7 @@ def read_line(line: str, names: Names, seen: Set[Tuple[int, str]]) -> None:
     number, name, fault = int(found["number"]), found["name"], None
     if found["text"]:
         known, most = names.texts.setdefault(int(found["text"]), {}), LARGEST
+        fault = None if name.strip() else "the text is empty, and an empty cell is a value that was not recorded"
     elif found["table"]:
         known, most, fault = names.tables, MOST_TABLES - 1, fault_of_table_name(name)
     else:

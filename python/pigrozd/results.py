@@ -1,10 +1,10 @@
 """The result of a join."""
-import array
 import reprlib
 from dataclasses import dataclass
-from typing import Any, Dict, Iterator, NamedTuple, Tuple, Union
+from typing import Any, Dict, Iterator, NamedTuple, Optional, Tuple, Union
 
 from .messages import count
+from .values import NOT_RECORDED, Values
 
 Key = Union[str, int]  # what an attribute is called: its name, or its number
 
@@ -21,9 +21,11 @@ class Counts(NamedTuple):
 @dataclass(frozen=True, repr=False)
 class Result:
     """A join's result: its columns by attribute (name or number, as the tables were given), how many rows it has, and
-    the four counts of the work done. Going through it gives its rows, each a tuple in the order of `names`."""
+    the four counts of the work done. Going through it gives its rows, each a tuple in the order of `names`.
 
-    columns: Dict[Key, "array.array[int]"]
+    A column is an array.array of 32-bit words; if a value was not recorded it is a list, with None for the value."""
+
+    columns: Dict[Key, Values]
     rows: int
     entries: int
     lookups: int
@@ -40,7 +42,7 @@ class Result:
         """The four counts together."""
         return Counts(self.entries, self.lookups, self.comparisons, self.visits)
 
-    def __iter__(self) -> Iterator[Tuple[int, ...]]:
+    def __iter__(self) -> Iterator[Tuple[Optional[int], ...]]:
         return zip(*self.columns.values())
 
     def __len__(self) -> int:
@@ -51,20 +53,29 @@ class Result:
 
     def to_numpy(self) -> Any:
         """A NumPy structured array, one field of 32-bit words for each attribute. An attribute that has only a number
-        is the field a0, a1 and so on."""
+        is the field a0, a1 and so on. Where a value was not recorded it is a masked array, and the value is masked."""
         import numpy
 
         fields = [name if isinstance(name, str) else "a%d" % name for name in self.columns]
         table = numpy.empty(self.rows, dtype=[(field, numpy.uint32) for field in fields])
+        mask = numpy.empty(self.rows, dtype=[(field, bool) for field in fields])
         for field, column in zip(fields, self.columns.values()):
-            table[field] = column
-        return table
+            whole = not isinstance(column, list)
+            table[field] = column if whole else [NOT_RECORDED if value is None else value for value in column]
+            mask[field] = table[field] == NOT_RECORDED
+        if not any(mask[field].any() for field in fields):
+            return table
+        masked: Any = numpy.ma
+        return masked.array(table, mask=mask, fill_value=(NOT_RECORDED,) * len(fields))
 
     def to_pandas(self) -> Any:
-        """A pandas DataFrame, one column of 32-bit words for each attribute, called by its name or number."""
+        """A pandas DataFrame, one column of 32-bit words for each attribute, called by its name or number. Where a
+        value was not recorded the column is of pandas' UInt32, and the value is NA."""
         import numpy
         import pandas  # type: ignore[import]
 
-        return pandas.DataFrame(
-            {name: numpy.array(column, dtype=numpy.uint32) for name, column in self.columns.items()}
-        )
+        table = {}
+        for name, column in self.columns.items():
+            whole = not isinstance(column, list)
+            table[name] = numpy.array(column, dtype="uint32") if whole else pandas.array(column, dtype="UInt32")
+        return pandas.DataFrame(table)

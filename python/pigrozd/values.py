@@ -1,46 +1,73 @@
-"""What a value is: a whole number from 0 to 4,294,967,295. A column's values are kept as little-endian words.
+"""What a value is: a whole number from 0 to 4,294,967,294, or not recorded. A column is kept as little-endian words.
 
-What is not such a number is refused, and so is what is missing: a masked value, None, NaN, NA, NaT.
+In a file and in the library's buffers the word 4,294,967,295 is a value that was not recorded. Python programs give
+None, NaN, pandas' NA or a masked element of NumPy's for it, and get None. The number itself is refused.
 """
+import array
 import collections.abc
 import operator
 import re
 import struct
 import sys
-from typing import Any, Iterable, List, Optional, Union
+from typing import Any, Iterable, List, Optional, Sequence, Union
 
-LARGEST = 4294967295
-RANGE = "0 to 4,294,967,295"
+NOT_RECORDED = 4294967295  # the word of a value that was not recorded
+LARGEST = NOT_RECORDED - 1
+RANGE = "0 to {:,}".format(LARGEST)
+NO_VALUE = "%d is the word for a value that was not recorded" % NOT_RECORDED
 TEXT = re.compile("0*([0-9]{1,10})")
 WHOLE_NUMBERS = re.compile("[@=<>!]?[bBhHiIlLqQ]")  # formats of a buffer
 LONG_FLOATS = re.compile("[@=<>!]?d")
+NO_NUMBERS = {"b": "truth values", "M": "dates", "m": "spans of time"}  # by the kind of a dtype
+
+Values = Sequence[Optional[int]]  # None is a value that was not recorded
 
 
-def value_of_text(text: str) -> Optional[int]:
-    """The value that a text spells in decimal, or None if it spells none."""
+# ---- words
+def word_of_text(text: str) -> Optional[int]:
+    """The word that a text spells in decimal, or None if it spells none."""
     digits = TEXT.fullmatch(text.strip(" \t"))
-    value = int(digits[1]) if digits else LARGEST + 1
-    return value if value <= LARGEST else None
+    word = int(digits[1]) if digits else NOT_RECORDED + 1
+    return word if word <= NOT_RECORDED else None
+
+
+def values_of(words: Iterable[int]) -> List[Optional[int]]:
+    """The values that words stand for, None for what was not recorded."""
+    return [None if word == NOT_RECORDED else word for word in words]
+
+
+def column_of_words(words: "array.array[int]") -> Values:
+    """The column of a result: the words if every value was recorded, or else a list with None."""
+    if row_not_recorded(words.tobytes()) is None:
+        return words
+    return values_of(words)
+
+
+def row_not_recorded(words: bytes) -> Optional[int]:
+    """The first row whose word is that of a value not recorded, or None. The bytes are searched and not unpacked."""
+    at = words.find(b"\xff\xff\xff\xff")
+    while at > 0 and at % 4:  # these bytes are of two words
+        at = words.find(b"\xff\xff\xff\xff", at + 4 - at % 4)
+    return at // 4 if at >= 0 else None
 
 
 # ---- one value
-def is_missing(value: Any) -> bool:
-    """Whether the value stands for none: None, NaN, pandas' NA and NaT, NumPy's NaT and masked."""
-    pandas, masked = sys.modules.get("pandas"), sys.modules.get("numpy.ma")
-    if value is None or pandas and value is getattr(pandas, "NA", None):
+def is_not_recorded(value: Any) -> bool:
+    """Whether the value stands for one that was not recorded: None, NaN, pandas' NA, NumPy's masked."""
+    if value is None or isinstance(value, float) and value != value:
         return True
-    if masked and isinstance(value, masked.MaskedArray):  # masked itself, or an array of no dimension
-        return bool(masked.getmaskarray(value).any())
-    try:
-        return bool(value != value)  # so it is with NaN and NaT alone
-    except (TypeError, ValueError, ArithmeticError):  # of arrays; of a Decimal that signals
+    pandas, masked = sys.modules.get("pandas"), sys.modules.get("numpy.ma")
+    if pandas and value is getattr(pandas, "NA", None):
+        return True
+    if not masked or not isinstance(value, masked.MaskedArray):
         return False
+    return value.ndim == 0 and not value.dtype.names and bool(value.mask)  # masked itself, or an array of no dimension
 
 
-def whole_number(value: Any) -> int:
-    """The value as a number from 0 to 4,294,967,295; TypeError or ValueError if it is none."""
-    if is_missing(value):
-        raise ValueError("%s stands for a missing value, and what is missing cannot be joined" % value)
+def word_of(value: Any) -> int:
+    """The word of a value; TypeError or ValueError if it is none."""
+    if is_not_recorded(value):
+        return NOT_RECORDED
     if isinstance(value, bool) or getattr(getattr(value, "dtype", None), "kind", "") == "b":
         raise TypeError("%s is a truth value, not a number" % value)
     if isinstance(value, float):
@@ -52,6 +79,8 @@ def whole_number(value: Any) -> int:
             number = operator.index(value)
         except TypeError:
             raise TypeError("%.60r (%s) is not a whole number" % (value, type(value).__name__)) from None
+    if number == NOT_RECORDED:
+        raise ValueError(NO_VALUE + "; give None, a masked element or NaN instead")
     if not 0 <= number <= LARGEST:
         raise ValueError("%s is not in %s" % (number if number.bit_length() <= 128 else "a longer number", RANGE))
     return number
@@ -61,9 +90,11 @@ def whole_number(value: Any) -> int:
 def column_words(values: Any, where: str) -> bytes:
     """A column's values as words. `where` names table and column in an error."""
     refuse_kind(values, where)
-    refuse_masked(values, where)
     items = items_of(values, where)
     if isinstance(items, bytes):
+        row = row_not_recorded(items)
+        if row is not None:
+            at_row(NOT_RECORDED, where, row)
         return items
     words: List[int] = []
     for row, value in enumerate(items):
@@ -74,9 +105,9 @@ def column_words(values: Any, where: str) -> bytes:
 
 
 def at_row(value: Any, where: str, row: int) -> int:
-    """The value as a number; its error says where it stands."""
+    """The word of a value; its error says where it stands."""
     try:
-        return whole_number(value)
+        return word_of(value)
     except TypeError as error:
         raise TypeError("%s, row %d: %s" % (where, row, error)) from None
     except ValueError as error:
@@ -105,17 +136,14 @@ def refuse_kind(values: Any, where: str) -> None:
         raise TypeError(
             "%s: %s does not hold every number from %s; give whole numbers or float64" % (where, dtype, RANGE)
         )
+    if getattr(dtype, "kind", "") in NO_NUMBERS:
+        raise TypeError("%s: a column holds whole numbers, not %s" % (where, NO_NUMBERS[dtype.kind]))
 
 
-def refuse_masked(values: Any, where: str) -> None:
-    """Refuses a NumPy masked array in which a value is masked."""
+def has_masked(values: Any) -> bool:
+    """Whether this is a NumPy masked array in which an element is masked."""
     masked = sys.modules.get("numpy.ma")
-    if masked and isinstance(values, masked.MaskedArray):
-        mask = masked.getmaskarray(values)
-        if mask.any():
-            raise ValueError(
-                "%s, row %d: a masked value, and what is missing cannot be joined" % (where, mask.argmax())
-            )
+    return bool(masked and isinstance(values, masked.MaskedArray) and masked.getmaskarray(values).any())
 
 
 def items_of(values: Any, where: str) -> Union[bytes, Iterable[Any]]:
@@ -131,9 +159,11 @@ def items_of(values: Any, where: str) -> Union[bytes, Iterable[Any]]:
             ) from None
     if view.format == "O":
         return list(values)
-    if view.itemsize == 4 and view.format.lstrip("@=<") in ("I", "L") and sys.byteorder == "little":
-        return view.tobytes()
     if not WHOLE_NUMBERS.fullmatch(view.format) and not LONG_FLOATS.fullmatch(view.format):
         kind = "truth values" if view.format.endswith("?") else "items of the format %r" % view.format
         raise TypeError("%s: a column holds whole numbers, not %s" % (where, kind))
+    if has_masked(values):
+        return list(values.tolist())  # None for what is masked
+    if view.itemsize == 4 and view.format.lstrip("@=<") in ("I", "L") and sys.byteorder == "little":
+        return view.tobytes()
     return [item for item, in struct.iter_unpack(view.format, view.tobytes())]
