@@ -1,5 +1,8 @@
 //! The files of the bench, made from fixed seeds: tables, a plan, and the bytes of document 01.
 
+/// What stands for a reading that was never taken. It matches nothing, not even itself.
+pub const NOT_RECORDED: u32 = u32::MAX;
+
 pub enum Plan {
     Table(usize),
     Join(Box<Plan>, Box<Plan>),
@@ -307,6 +310,18 @@ fn fan_out(n: usize, seed: u64) -> Input {
     Input::new(tables, left_deep(2))
 }
 
+/// The same tables and plan, with one value in 16 not recorded: keys, and values that one table alone has.
+fn partly_recorded(input: Input, seed: u64) -> Input {
+    let mut r = Random(!seed);
+    let mut tables = input.tables;
+    for value in tables.iter_mut().flat_map(|t| &mut t.columns).flatten() {
+        if r.below(16) == 0 {
+            *value = NOT_RECORDED;
+        }
+    }
+    Input::new(tables, input.plan)
+}
+
 /// A shape with a number of rows in each table, and the files of it: one for each seed.
 pub struct Case {
     pub shape: String,
@@ -341,7 +356,7 @@ pub fn all() -> Vec<Case> {
             }
         }
     }
-    let others: [(&str, fn(usize, u64) -> Input); 10] = [
+    let others: [(&str, fn(usize, u64) -> Input); 12] = [
         ("dangling chain of 9", |n, seed| dangling_chain(9, n, seed)),
         ("dangling star of 9", |n, seed| dangling_star(9, n, seed)),
         ("poor chain of 3", poor_chain),
@@ -352,6 +367,8 @@ pub fn all() -> Vec<Case> {
         ("keys of 20 zero bits, chain of 5", |n, seed| low_bits_equal(5, n, seed)),
         ("keys of 2, 1 shared", |n, seed| shared_leading(2, n, seed)),
         ("keys of 8, 7 shared", |n, seed| shared_leading(8, n, seed)),
+        ("not recorded, snowflake of 9", |n, seed| partly_recorded(snowflake(9, n, seed), seed)),
+        ("not recorded, keys of 2", |n, seed| partly_recorded(pairs(n, seed), seed)),
     ];
     for (name, shape) in others {
         for n in [512, 4096] {

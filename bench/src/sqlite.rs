@@ -1,10 +1,10 @@
 //! SQLite in memory, through its C library. The tables are loaded and the statement is prepared before the time is taken; a run
-//! steps through all rows and reads every value.
+//! steps through all rows and reads every value. A value that was not recorded is NULL there, which matches nothing.
 
 use std::ffi::{c_char, c_int, c_void, CStr, CString};
 use std::ptr::null_mut;
 
-use crate::inputs::Input;
+use crate::inputs::{Input, NOT_RECORDED};
 
 #[repr(C)]
 struct Database(c_void);
@@ -25,14 +25,17 @@ extern "C" {
         tail: *mut *const c_char,
     ) -> c_int;
     fn sqlite3_bind_int64(statement: *mut Statement, index: c_int, value: i64) -> c_int;
+    fn sqlite3_bind_null(statement: *mut Statement, index: c_int) -> c_int;
     fn sqlite3_step(statement: *mut Statement) -> c_int;
     fn sqlite3_reset(statement: *mut Statement) -> c_int;
     fn sqlite3_column_int64(statement: *mut Statement, index: c_int) -> i64;
+    fn sqlite3_column_type(statement: *mut Statement, index: c_int) -> c_int;
     fn sqlite3_finalize(statement: *mut Statement) -> c_int;
 }
 
 const ROW: c_int = 100;
 const DONE: c_int = 101;
+const NULL: c_int = 5;
 
 pub fn version() -> String {
     unsafe { CStr::from_ptr(sqlite3_libversion()) }.to_string_lossy().into_owned()
@@ -99,7 +102,11 @@ impl Query {
                 let insert = prepare(database, &format!("INSERT INTO t{t} VALUES({marks})"));
                 for y in 0..table.rows() {
                     for (c, column) in table.columns.iter().enumerate() {
-                        sqlite3_bind_int64(insert, c as c_int + 1, column[y] as i64);
+                        let code = match column[y] {
+                            NOT_RECORDED => sqlite3_bind_null(insert, c as c_int + 1),
+                            v => sqlite3_bind_int64(insert, c as c_int + 1, v as i64),
+                        };
+                        assert_eq!(code, 0);
                     }
                     assert_eq!(sqlite3_step(insert), DONE);
                     sqlite3_reset(insert);
@@ -117,7 +124,11 @@ impl Query {
         let mut values = Vec::new();
         unsafe {
             while sqlite3_step(self.statement) == ROW {
-                values.extend((0..self.width).map(|c| sqlite3_column_int64(self.statement, c as c_int) as u32));
+                // SQLite reads NULL as 0.
+                values.extend((0..self.width as c_int).map(|c| match sqlite3_column_int64(self.statement, c) {
+                    0 if sqlite3_column_type(self.statement, c) == NULL => NOT_RECORDED,
+                    v => v as u32,
+                }));
             }
             assert_eq!(sqlite3_reset(self.statement), 0);
         }
