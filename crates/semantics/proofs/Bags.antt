@@ -14,8 +14,8 @@ use Rattle.semantics.specs.Shapes.{attributes, holds}
 use Rattle.semantics.specs.Results.{Base, Pick, recorded, valuesMatch, valuesAgree, choices, valuesIn, agrees, results, tuple}
 use Rattle.semantics.specs.Enumeration.{headOf}
 use Rattle.semantics.specs.Bags.{rowHas, repeats, tupleOf, sharedRecorded, multiplicity}
-use Rattle.semantics.proofs.Cases.{cases}
-use Rattle.semantics.proofs.Lists.{each, Each-map, Each-filter, map-consIf, all-and, all-append, true-all, filter-map, filter-filter, filter-each, filter-false, nonEmpty-filter, product-append, count-pairs}
+use Rattle.semantics.proofs.Cases.{cases, and-right}
+use Rattle.semantics.proofs.Lists.{each, Each-map, Each-with, Each-filter, filter-passes, same-refl, map-consIf, all-and, all-append, true-all, filter-map, filter-filter, filter-each, filter-false, nonEmpty-filter, product-append, count-pairs}
 use Rattle.semantics.proofs.Choices.{choices-named}
 
 -- values that agree are equal, and recorded where there are several
@@ -132,3 +132,17 @@ module _ (D : Base) where
   tuple-of-values p =
       Each-filter (λ c. tuple D c ≡ tupleOf D (valuesOf c) p) (agrees D) (choices D p)
       (Each-map (λ c. map (λ x. x .table) c ≡ tables p) (λ c. tuple D c ≡ tupleOf D (valuesOf c) p) (λ c n. first-values p c n attributes) (choices D p) (choices-named D p))
+
+  -- ---- request U1's own words: "no attribute shared by two of that plan's tables holds that word", in any result
+  shared-of : (p : Plan) (c : List Pick) → agrees D c ≡ true → map (λ x. x .table) c ≡ tables p → sharedRecorded D (valuesOf c) p ≡ true
+  unfolding tuple tupleOf
+  shared-of p c e n =
+      let u = tupleOf D (valuesOf c) p in
+      and-right (choiceHas (valuesOf c) c) (sharedRecorded D (valuesOf c) p)
+      (sym (agrees-tuple (valuesOf c) p c n) ∙ ap₂ (λ a b. a && b) e (ap (same u) (first-values p c n attributes) ∙ same-refl u))
+
+  pub shared-recorded : (p : Plan) → Each (λ c. sharedRecorded D (valuesOf c) p ≡ true) (results D p)
+  unfolding results
+  shared-recorded p =
+      Each-with (λ c. agrees D c ≡ true) (λ c. map (λ x. x .table) c ≡ tables p) (λ c. sharedRecorded D (valuesOf c) p ≡ true) (shared-of p) (results D p)
+      (filter-passes (agrees D) (choices D p)) (Each-filter (λ c. map (λ x. x .table) c ≡ tables p) (agrees D) (choices D p) (choices-named D p))
