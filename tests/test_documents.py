@@ -41,7 +41,8 @@ class Specification(unittest.TestCase):
 
 
 class Trust(unittest.TestCase):
-    """docs/TRUST.md: how many crates and wrong versions there are, and the corollaries that it names."""
+    """docs/TRUST.md: how many crates and wrong versions there are, and the corollaries that it names. And how many
+    wrong definitions there are, in docs/DECISIONS.md."""
 
     def test_counts(self):
         crates = len(re.findall(r"^\w+:", text("crates.txt"), re.M))
@@ -49,6 +50,10 @@ class Trust(unittest.TestCase):
         trust = text("docs", "TRUST.md")
         self.assertIn("`crates/*/must-fail`; %d of them" % edits, trust)
         self.assertIn("that were refused: %d + %d |" % (crates, edits), trust)
+
+    def test_wrong_definitions(self):
+        edits = len(os.listdir(path("crates", "semantics", "must-fail")))
+        self.assertIn("%d wrong definitions that must be refused" % edits, text("docs", "DECISIONS.md"))
 
     def test_corollaries(self):
         named = re.search("by name, as `(.*)` or `(.*)`", text("docs", "TRUST.md"))

@@ -45,7 +45,7 @@ class Calls(unittest.TestCase):
         return text + "output %d words written, rest unchanged\n" % end
 
     def test_samples(self):
-        """The 192 samples of the gate, P1 to P12 among them, called through the shared library."""
+        """The samples of the gate, P1 to P12 among them, called through the shared library."""
         names = load("crates", "samples", "args").decode().split()
         text = []
         for name in names:

@@ -47,7 +47,7 @@ done
 grep -q "^## $version" CHANGELOG.md || { echo "test_pages: CHANGELOG.md has no $version"; failures=$((failures + 1)); }
 
 # links to files
-for page in *.md docs/*.md docs/answers/*.md; do
+for page in *.md docs/*.md docs/answers/*.md docs/changes/*.md; do
     sed 's/`[^`]*`//g' "$page" | grep -o ']([^)#]*[)#]' | sed 's/^](//; s/.$//' | grep -v '^https*:' | grep . | while read -r link; do
         [ -e "$(dirname "$page")/$link" ] || echo "test_pages: $page leads to $link, which is not there"
     done
