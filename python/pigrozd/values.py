@@ -18,7 +18,7 @@ NO_VALUE = "%d is the word for a value that was not recorded" % NOT_RECORDED
 TEXT = re.compile("0*([0-9]{1,10})")
 WHOLE_NUMBERS = re.compile("[@=<>!]?[bBhHiIlLqQ]")  # formats of a buffer
 LONG_FLOATS = re.compile("[@=<>!]?d")
-NO_NUMBERS = {"b": "truth values", "M": "dates", "m": "spans of time"}  # by the kind of a dtype
+NO_NUMBERS = {"b": "truth values", "M": "dates", "m": "spans of time", "U": "texts", "S": "bytes"}  # by a dtype's kind
 
 Values = Sequence[Optional[int]]  # None is a value that was not recorded
 
@@ -132,12 +132,14 @@ def refuse_kind(values: Any, where: str) -> None:
         raise ValueError("%s: a column has one dimension, not %s" % (where, dimensions))
     dtype: Any = getattr(values, "dtype", None)
     dtype = getattr(dtype, "subtype", dtype)  # of pandas' sparse columns
-    if getattr(dtype, "kind", "") == "f" and getattr(dtype, "itemsize", 8) < 8:
+    dtype = getattr(getattr(dtype, "categories", None), "dtype", dtype)  # of pandas' categories
+    kind = "U" if getattr(dtype, "type", None) is str else getattr(dtype, "kind", "")  # pandas' texts are objects
+    if kind == "f" and getattr(dtype, "itemsize", 8) < 8:
         raise TypeError(
             "%s: %s does not hold every number from %s; give whole numbers or float64" % (where, dtype, RANGE)
         )
-    if getattr(dtype, "kind", "") in NO_NUMBERS:
-        raise TypeError("%s: a column holds whole numbers, not %s" % (where, NO_NUMBERS[dtype.kind]))
+    if kind in NO_NUMBERS:
+        raise TypeError("%s: a column holds whole numbers, not %s" % (where, NO_NUMBERS[kind]))
 
 
 def has_masked(values: Any) -> bool:
