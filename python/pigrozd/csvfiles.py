@@ -227,7 +227,9 @@ def word_of_cell(cell: str, numbers: Optional[Dict[str, int]]) -> int:
     if word == NOT_RECORDED:
         raise InputError(NO_VALUE + "; leave the cell empty instead")
     if word is None:
-        raise InputError("%.60r is not a number from 0 to %d" % (cell, LARGEST))
+        raise InputError(
+            "%.60r is not a number from 0 to %d; a value that was not recorded is an empty cell" % (cell, LARGEST)
+        )
     return word
 
 
