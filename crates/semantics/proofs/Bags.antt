@@ -1,9 +1,8 @@
 -- Demand 2's bag meaning: each tuple stands in the result as often as the product of its repeats, and no other does.
 use mathlib.Core.Path.{_≡_, refl, sym, ap, ap₂, _∙_, fun-ext}
-use mathlib.Core.Bool.{Bool, true, false, _&&_, _||_, not, and-true, and-false}
+use mathlib.Core.Bool.{Bool, true, _&&_, _||_, not, and-true, and-false}
 use mathlib.Core.List.{List, [], _∷_, _++_, map}
 use Prim.Native.Nat.{ℕ, _*_}
-use native.Mathlib.Omega.{arith}
 use native.Mathlib.Nat.{mul-one}
 use lib.ListN.{length, take, length-map}
 use lib.Dec.{eqb}
@@ -11,7 +10,7 @@ use borrow.Author.Tests.{eqb-true}
 use Rattle.semantics.specs.Lists.{Each, same, all, any, filter, consIf, nonEmpty, several, product, concatMap, upTo}
 use Rattle.semantics.specs.Plans.{Plan, scan, join, tables}
 use Rattle.semantics.specs.Shapes.{attributes, holds}
-use Rattle.semantics.specs.Results.{Base, Pick, recorded, valuesMatch, valuesAgree, choices, valuesIn, agrees, results, tuple}
+use Rattle.semantics.specs.Results.{Base, Pick, recorded, valuesAgree, choices, valuesIn, agrees, results, tuple}
 use Rattle.semantics.specs.Enumeration.{headOf}
 use Rattle.semantics.specs.Bags.{rowHas, repeats, tupleOf, sharedRecorded, multiplicity}
 use Rattle.semantics.proofs.Cases.{cases, and-right}

@@ -9,7 +9,7 @@ use lib.ListN.{length, length-append, length-map}
 use Rattle.semantics.specs.Lists.{Each, any, sum, filter, from, upTo}
 use Rattle.semantics.specs.Plans.{Plan, scan, join, tables, leftmost}
 use Rattle.semantics.specs.Shapes.{joinAttributes, widestKey}
-use Rattle.semantics.specs.Results.{Base, rowNumbers, uses, results, participants, key, leftKey, rightKey, recordedKey, entered, walked}
+use Rattle.semantics.specs.Results.{Base, rowNumbers, uses, results, participants, key, leftKey, rightKey, entered, walked}
 use Rattle.semantics.specs.SearchTrees.{Words, compared}
 use Rattle.semantics.specs.Counts.{visitsAfter, enteredKeys, soughtKeys, entries, lookups, comparisons, visits}
 use Rattle.semantics.proofs.Lists.{each, Each-of-map, sum-append, length-filter}
