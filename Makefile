@@ -61,13 +61,13 @@ check-c: lib target/bin/pigrozd
 	MAKE='$(MAKE)' CC='$(CC)' sh tests/test_install.sh
 	sh tests/test_pages.sh
 
-# The Python package: the library through it, tables and values, those that were not recorded, the file format, pip. Then its
-# commands. What needs NumPy or pandas is skipped, in words, where they are not there; make check-users PYTHON=/usr/bin/python3
-# names another.
+# The Python package: the library through it, the reference's mending and the package's, tables and values, those that were not
+# recorded, the file format, pip. Then its commands. What needs NumPy or pandas is skipped, in words, where they are not there;
+# make check-users PYTHON=/usr/bin/python3 names another.
 PYTHON = python3
 
 check-python: lib
-	$(PYTHON) tests/run.py test_library test_python test_not_recorded test_formats test_install
+	$(PYTHON) tests/run.py test_library test_mending test_mended_plans test_python test_not_recorded test_formats test_install
 
 check-commands: lib
 	$(PYTHON) tests/run.py test_commands test_join test_damaged test_documents
@@ -75,7 +75,7 @@ check-commands: lib
 .PHONY: lib check-users check-c check-python check-commands
 
 # make bench measures the join beside an unproved twin, a HashMap join and SQLite (docs/PERFORMANCE.md); make check-bench says only
-# whether they agree. Both need cargo and Debian's sqlite3, the instructions valgrind too.
+# whether they agree, after the twin's own tests. Both need cargo and Debian's sqlite3, the instructions valgrind too.
 BENCH = target/bench/release/bench
 
 $(BENCH): lib $(wildcard bench/src/*.rs)
@@ -85,6 +85,7 @@ bench: $(BENCH)
 	$(BENCH)
 
 check-bench: $(BENCH)
+	cargo test --quiet --release --offline --manifest-path bench/Cargo.toml --target-dir target/bench
 	$(BENCH) --check
 
 .PHONY: bench check-bench

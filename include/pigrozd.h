@@ -66,11 +66,14 @@ enum pigrozd_number {
     PIGROZD_BEHIND_PLAN = 6,       /* something stands behind the plan; detail: offset of the first byte too many */
     PIGROZD_NOT_A_PLAN = 7,        /* the plan's bytes are not a plan; detail: index in the plan */
     PIGROZD_NOT_NAMED_ONCE = 8,    /* the plan does not name each table once; detail: index in the plan */
-    PIGROZD_NOT_WELL_BEHAVED = 9,  /* the plan is not well-behaved; detail: index of an FF in the plan */
+    PIGROZD_NO_HOLDER = 9,         /* a join has a side where no table holds its join attributes; detail: index of its FF */
     PIGROZD_SCRATCH_SHORT = 10,    /* the scratch is too short; detail: words needed */
     PIGROZD_OUTPUT_SHORT = 11,     /* more results than the output fits; detail: number of results, or PIGROZD_HOLD_LIMIT */
     PIGROZD_COUNTS_DIFFER = 12     /* two counts of the results differ; never given, which is proved; detail: 0 */
 };
+
+/* The name that 9 had before plans were mended; a plan that is not well-behaved is no longer refused for that. */
+#define PIGROZD_NOT_WELL_BEHAVED PIGROZD_NO_HOLDER
 
 /* number: one of the above. After PIGROZD_JOINED detail is 0, and rows and the four counts follow. Any other number is a
  * refusal: detail says where or how much, and the rest is 0. */
@@ -84,7 +87,11 @@ typedef struct pigrozd_answer {
     uint64_t visits;
 } pigrozd_answer;
 
-/* After PIGROZD_JOINED output begins with the rows: each has one word for every attribute that some table has, attributes
+/* A plan that is not well-behaved is mended first: the join follows the mended plan, and a well-behaved plan as it is
+ * (docs/SPECIFICATION.md, section 3). The order of the rows, the words of scratch needed and the counts are those of the plan
+ * that is followed. The detail of PIGROZD_NO_HOLDER is an index in the plan of the file.
+ *
+ * After PIGROZD_JOINED output begins with the rows: each has one word for every attribute that some table has, attributes
  * rising. The words behind them, and after any other number all of output, are as they were.
  *
  * Too little scratch is PIGROZD_SCRATCH_SHORT: lend as many words as detail says and call again. Too short an output is

@@ -156,21 +156,21 @@ def plan_samples():
     sample("plan_leaves_a_table_out", file(BENCH, FF, 0, 1))
     sample("plan_misnamed_and_ill_behaved", file(BENCH, FF, FF, 0, 2, 2))
     pieces = [table((0,), (5,)), table((1,), (6,)), table((1, 2), (6, 7)), table((2,), (7,))]
-    sample("ill_behaved_at_an_inner_join", file(pieces, FF, 0, FF, FF, 1, 2, 3))
-    sample("ill_behaved_at_the_left_leftmost", file(BENCH, FF, FF, 2, 1, 0))
-    sample("ill_behaved_at_outer_and_inner_join", file(BENCH + (table((3,), (29510,)),), FF, FF, 0, FF, 2, 1, 3))
+    sample("mended_at_an_inner_join", file(pieces, FF, 0, FF, FF, 1, 2, 3))
+    sample("mended_at_the_left_leftmost", file(BENCH, FF, FF, 2, 1, 0))
+    sample("mended_at_outer_and_inner_join", file(BENCH + (table((3,), (29510,)),), FF, FF, 0, FF, 2, 1, 3))
     twice = BENCH + tuple(table((a, a + 1), (1, 2)) for a in (10, 11, 12))
-    sample("ill_behaved_in_both_plans", file(twice, FF, FF, 0, FF, 2, 1, FF, 3, FF, 5, 4))
-    sample("ill_behaved_in_the_right_plan", file(twice, FF, FF, 0, FF, 1, 2, FF, 3, FF, 5, 4))
+    sample("mended_in_both_plans", file(twice, FF, FF, 0, FF, 2, 1, FF, 3, FF, 5, 4))
+    sample("mended_in_the_right_plan", file(twice, FF, FF, 0, FF, 1, 2, FF, 3, FF, 5, 4))
     # three chains of three tables; the first tables of the chains share attribute 31, so the joins of chains are well-behaved
     chains = [table((a, a + 1) + (31,) * (a % 10 == 0), (1, 2) + (3,) * (a % 10 == 0)) for a in (0, 1, 2, 10, 11, 12, 20, 21, 22)]
-    sample("ill_behaved_in_both_plans_below_a_key", file(chains[:6], FF, FF, 0, FF, 2, 1, FF, 3, FF, 5, 4))
-    sample("ill_behaved_twice_further_below", file(chains, FF, FF, 0, FF, 1, 2, FF, FF, 3, FF, 5, 4, FF, 6, FF, 8, 7))
-    sample("ill_behaved_once_further_below", file(chains, FF, FF, 0, FF, 1, 2, FF, FF, 3, FF, 4, 5, FF, 6, FF, 8, 7))
+    sample("mended_in_both_plans_below_a_key", file(chains[:6], FF, FF, 0, FF, 2, 1, FF, 3, FF, 5, 4))
+    sample("mended_twice_further_below", file(chains, FF, FF, 0, FF, 1, 2, FF, FF, 3, FF, 5, 4, FF, 6, FF, 8, 7))
+    sample("mended_once_further_below", file(chains, FF, FF, 0, FF, 1, 2, FF, FF, 3, FF, 4, 5, FF, 6, FF, 8, 7))
     sample("well_behaved_from_the_middle", file(BENCH, FF, FF, 1, 0, 2))
     sample("well_behaved_backwards", file(BENCH, FF, 2, FF, 1, 0))
     triangle = [table((0, 1), (1, 2)), table((1, 2), (2, 3)), table((0, 2), (1, 3))]
-    sample("ill_behaved_triangle", file(triangle, FF, FF, 0, 1, 2))
+    sample("no_holder_in_a_triangle", file(triangle, FF, FF, 0, 1, 2))
 
 
 def buffer_samples():
@@ -336,6 +336,121 @@ def many_table_samples():
     sample("tables_16_of_one_attribute", file(alike, *[FF] * 15, *range(15, -1, -1)), 1000, 300)
 
 
+# ---- mended plans, and joins with a side where no table holds the join attributes
+def linked(*shapes):
+    """Tables by their rows and attributes. Row y has y % 2 in each of these, and its own value in attribute 16 + t."""
+    return [table((*held, 16 + t), *[(*[y % 2] * len(held), 10 * t + y) for y in range(rows)])
+            for t, (rows, held) in enumerate(shapes)]
+
+
+def mended_samples():
+    second = file(BENCH, FF, 0, FF, 2, 1)  # this plan would need 95 words, mended it needs 96
+    sample("p2_scratch_of_95_words", second, 95)
+    sample("p2_scratch_of_96_words", second, 96)
+    sample("p2_output_of_15_words", second, 1000, 15)
+    two_empty = [table((3,)), table((0, 2), (1, 1)), table((1,), (1,), (1,)), table((1,), (1,), (2,)), table((0, 2, 3))]
+    sample("mended_two_of_five_tables_empty", file(two_empty, FF, 3, FF, FF, 0, FF, 1, 4, 2))
+    chain = [table((0, 1), *[(10 + y, y % 2) for y in range(3)]), table((1, 2), *[(y % 2, y % 3) for y in range(8)]),
+             table((2, 3), *[(y % 3, 30 + y) for y in range(6)])]
+    sample("mended_root_is_no_holder_of_the_top_join", file(chain, FF, 0, FF, 2, 1))
+    six = [(9, (5, 13, 16)), (5, (16, 22, 24)), (9, (19,)), (9, (19, 25)), (9, (6, 16)), (5, (25,))]
+    sixes = [table(held, *[[y if a in (16, 19, 25) else 10 * t + y for a in held] for y in range(rows)])
+             for t, (rows, held) in enumerate(six)]
+    sample("mended_with_a_penalty_of_14", file(sixes, FF, 0, FF, 4, FF, FF, 5, FF, 2, 3, 1))
+    missing = [table((0, 1), (10, 1), (11, W), (12, 2)), table((1, 2), (1, 7), (W, 7), (2, W), (2, 8), (W, W)),
+               table((2, 3), (7, W), (W, 5), (8, 6))]
+    sample("mended_unrecorded_in_keys", file(missing, FF, 0, FF, 2, 1))
+
+
+def mended_choice_samples():
+    """Plans where another reading of the choice of roots, or of where a tree is hung, gives another plan."""
+    x, y, xy = (0,), (1,), (0, 1)
+    # table 2 or table 0 as the root has penalty 3; table 2 is named first
+    sample("mended_tie_of_overall_roots", file(linked((3, y), (2, xy), (3, x)), FF, 2, FF, 0, 1))
+    # on the right tables 2 and 1 hold x, and each as the root has penalty 3 there; table 2 is named first
+    tie = linked((2, x), (3, x), (3, xy), (2, xy))
+    sample("mended_tie_of_a_right_sides_roots", file(tie, FF, 0, FF, 2, FF, 1, 3))
+    # the same, with penalties 3 and 2; with their row counts, which a right side does not add, both would be 5
+    right = linked((2, x), (3, x), (2, xy), (2, xy))
+    sample("mended_right_side_adds_no_row_count", file(right, FF, 0, FF, 2, FF, 1, 3))
+    # table 1 is the root on the right; on its left tables 3 and 2 cost 5 with their row counts, and 3 and 2 without
+    tie = linked((4, (2,)), (1, (0, 2)), (3, x), (2, xy), (1, xy))
+    sample("mended_tie_of_a_left_sides_roots", file(tie, FF, 0, FF, FF, 3, FF, 2, 4, 1))
+    # there tables 3 and 2 cost 6 and 5 with their row counts, and 2 and 4 without
+    added = linked((6, (2,)), (1, (0, 2)), (1, x), (4, xy), (1, (0, 1, 3)), (1, (0, 3)))
+    sample("mended_added_row_count_decides", file(added, FF, 0, FF, FF, 3, FF, FF, 2, 5, 4, 1))
+    # tables 2 and 3 hang under table 1, in this order
+    star = linked((1, x), (2, (0, 1, 2)), (3, y), (3, (2,)))
+    sample("mended_hung_last", file(star, FF, FF, FF, 0, 1, 2, 3))
+    # tables 1 and 2 hold y, below the root; table 3 hangs under table 1
+    below = linked((2, x), (3, xy), (2, y), (3, y))
+    sample("mended_hung_under_the_topmost_holder", file(below, FF, FF, 0, FF, 1, 2, 3))
+    # table 3 has no attribute of the others and hangs under the root
+    sample("mended_no_join_attributes", file(linked((2, x), (3, xy), (4, y), (2, ())), FF, FF, FF, 0, 1, 2, 3))
+
+
+def no_holder_samples():
+    x, y, xy = table((0,), (1,)), table((1,), (1,)), table((0, 1), (1, 1))
+    apart = table((2,), (1,))
+    sample("no_holder_though_a_well_behaved_plan_exists", file([x, y, xy], FF, FF, 0, 1, 2))
+    sample("no_holder_on_the_right", file([x, y, xy], FF, 2, FF, 0, 1))
+    sample("no_holder_and_no_buffers", file([x, y, xy], FF, 2, FF, 0, 1), 0, 0)
+    sample("no_holder_on_either_side", file([x, y, y, x], FF, FF, 0, 1, FF, 2, 3))
+    # the first join has holders and is not well-behaved, the one of the FF at index 4 has none
+    sample("no_holder_below_a_join_to_be_mended", file([x, y, xy, apart, x], FF, 4, FF, 3, FF, 2, FF, 0, 1))
+    two = [x, y, xy, *(table(held, (1,) * len(held)) for held in ((4,), (5,), (4, 5)))]
+    sample("no_holder_in_both_plans", file(two, FF, FF, FF, 0, 1, 2, FF, 5, FF, 3, 4))
+    sample("no_holder_in_the_right_plan", file(two, FF, FF, FF, 0, 2, 1, FF, 5, FF, 3, 4))
+    outer = [table((0, 5), (1, 1)), y, xy, table((1, 5), (1, 1))]
+    sample("no_holder_at_outer_and_inner_join", file(outer, FF, FF, FF, 0, 1, 2, 3))
+    sample("no_holder_and_a_table_left_out", file([x, y, xy, apart], FF, FF, 0, 1, 2))
+
+
+# ---- mended plans of 16 tables
+def left_deep(n):
+    return [FF] * (n - 1) + list(range(n))
+
+
+def zig_zag(n):
+    """Table 0, which later tables join from the right and from the left by turns."""
+    code = [0]
+    for t in range(1, n):
+        code = [FF] + code + [t] if t % 2 else [FF, t] + code
+    return code
+
+
+def bushy(n, first=0):
+    """The first half of the tables joined with the second half, and so on."""
+    return [FF] + bushy(n // 2, first) + bushy(n - n // 2, first + n // 2) if n > 1 else [first]
+
+
+def named(code, *order):
+    """The plan with these tables in place of 0, 1, 2 and so on."""
+    return [b if b == FF else order[b] for b in code]
+
+
+def sixteen_samples():
+    rows = (2, 1, 3, 1, 2, 1, 1, 2, 1, 3, 1, 1, 2, 1, 2, 1)
+    chain = linked(*[(n, tuple(a for a in (t - 1, t) if 0 <= a < 15)) for t, n in enumerate(rows)])
+    ends = [t for i in range(8) for t in (15 - i, i)]
+    outwards = [7, 8, 6, 5, 9, 10, 4, 3, 11, 12, 2, 1, 13, 14, 0, 15]
+    sample("mended_16_tables_chain_left_deep", file(chain, *left_deep(16)))
+    sample("mended_16_tables_chain_right_deep", file(chain, *named(right_deep(16), *ends)))
+    sample("mended_16_tables_chain_bushy", file(chain, *named(bushy(16), *[t ^ 2 for t in range(16)])))
+    sample("mended_16_tables_chain_zig_zag", file(chain, *named(zig_zag(16), *outwards)))
+    star = linked((3, range(7)), *[(n, (t % 7,)) for t, n in enumerate(rows[1:])])
+    sample("mended_16_tables_star_right_deep", file(star, *named(right_deep(16), *range(1, 15), 0, 15)))
+    sample("mended_16_tables_star_zig_zag", file(star, *named(zig_zag(16), 3, 0, *range(15, 3, -1), 1, 2)))
+    # table 0 shares an attribute with each of tables 1 to 3, and each of these one with four of tables 4 to 15
+    flake = linked((2, range(3)), *[(n, (d, *range(3 + 4 * d, 7 + 4 * d))) for d, n in enumerate((3, 1, 2))],
+                   *[(n, (3 + t,)) for t, n in enumerate(rows[:12])])
+    arms = [[4, 1, 5, 6, 7], [8, 2, 9, 10, 11], [12, 3, 13, 14, 15]]
+    left = named(left_deep(16), *arms[1], 0, *arms[0][1:], 4, *arms[2][1:], 12)
+    sample("mended_16_tables_snowflake_left_deep", file(flake, *left))
+    first, second, third = (named(zig_zag(5), *arm) for arm in arms)
+    sample("mended_16_tables_snowflake_bushy", file(flake, FF, FF, *first, FF, *second, 0, *third))
+
+
 # ---- trees of tables, drawn
 def drawn_tree(draw, n):
     """Attributes of n tables: each later one shares up to two with one before it, and has one or two of its own."""
@@ -353,19 +468,36 @@ def drawn_plan(draw, tables):
     return [FF] + drawn_plan(draw, tables[:at]) + drawn_plan(draw, tables[at:])
 
 
+def drawn_file(seed, n):
+    draw = random.Random(1000 + seed).randrange
+    tables = few_values(draw, drawn_tree(draw, n))
+    return file(tables, *drawn_plan(draw, sorted(range(n), key=lambda t: draw(1000))))
+
+
+def well_behaved(data):
+    tables, code = reference.read(data)
+    return reference.well_behaved(tables, reference.parse(code)[0])
+
+
 def tree_samples():
-    """Files that are within the rules, in whatever order the plan was drawn."""
+    """Files whose plan is well-behaved as it was drawn."""
     count = dict.fromkeys(range(3, 8), 0)
     for seed in itertools.count():
-        draw = random.Random(1000 + seed).randrange
         n = 3 + seed % 5
-        tables = few_values(draw, drawn_tree(draw, n))
-        data = file(tables, *drawn_plan(draw, sorted(range(n), key=lambda t: draw(1000))))
-        if 2 <= len(reference.outcome(data, 65536, 65536)[2]) <= 40 and count[n] < 5:
+        data = drawn_file(seed, n)
+        if well_behaved(data) and count[n] < 5 and 2 <= len(reference.outcome(data, 65536, 65536)[2]) <= 40:
             count[n] += 1
             sample("tree_of_%d_tables_%d" % (n, count[n]), data, 1000, 1000)
         if min(count.values()) == 5:
             return
+
+
+def mended_tree_samples():
+    """Files whose plan is mended, one for each number of tables."""
+    for n in range(6, 9):
+        drawn = (drawn_file(seed, n) for seed in itertools.count())
+        data = next(d for d in drawn if not well_behaved(d) and 6 <= len(reference.outcome(d, 65536, 65536)[2]) <= 40)
+        sample("mended_tree_of_%d_tables" % n, data, 1000, 1000)
 
 
 # ---- the files
@@ -381,7 +513,11 @@ def after(answer, scratch):
 
 
 def main():
-    for make in (bench_samples, cut_samples, record_samples, plan_samples, buffer_samples, key_samples, unrecorded_samples, row_samples, many_table_samples, tree_samples):
+    for make in (
+        bench_samples, cut_samples, record_samples, plan_samples, buffer_samples, key_samples, unrecorded_samples,
+        row_samples, many_table_samples, tree_samples, mended_samples, mended_choice_samples, no_holder_samples,
+        sixteen_samples, mended_tree_samples,
+    ):
         make()
     folder = os.path.join(TOP, "crates/samples/data")
     os.makedirs(folder, exist_ok=True)

@@ -115,18 +115,18 @@ class Dumping(Folder):
         self.assertEqual(dumped(long, False, (13, 65536))[3], "answer 13 65536: standard input is too long")
 
     def test_command(self):
-        bad = self.write("bad", SAMPLE[:121] + bytes([255, 0, 255, 2, 1]))
+        bad = self.write("bad", SAMPLE[:121] + bytes([255, 255, 0, 2, 1]))
         self.write("bad.names", "0 frame\n1 exposure\n2 reading\ntable 2 readings\n")
         out, _ = self.command("dump", bad)
         self.assertIn(
-            "refused 9 0: the plan is not well-behaved: the join of table0 with readings and table1 is on exposure, "
-            "but "
-            "readings, the leftmost table on the right, has no exposure",
+            "refused 9 0: a join has a side where no table holds its join attributes: the join of table0 and readings "
+            "with table1, byte 0 of the plan, is on exposure and reading, but no table on the left has them all; name "
+            "tables that share attributes next to each other\n",
             out,
         )
         self.assertIn(
-            "     121  ff                                               index 0   join on exposure; not well-behaved\n"
-            "          ^^ answer 9, detail 0: ",
+            "     121  ff                                               index 0   join on exposure, reading; no table "
+            "on the left has them all\n          ^^ answer 9, detail 0: ",
             out,
         )
         out, _ = self.command("dump", "--answer", "6", "126", bad)
@@ -137,7 +137,31 @@ class Dumping(Folder):
         self.write("bad.names", "frame\n")
         out, err = self.command("dump", bad)
         self.assertIn("bad.names, line 1: expected NUMBER NAME", err)
-        self.assertIn("but table2, the leftmost table on the right, has no a1", out)
+        self.assertIn("table0 and table2 with table1, byte 0 of the plan, is on a1 and a2, but no table on the", out)
+
+    def test_mended_plan(self):
+        """What the file holds is shown as it is, and the plan that a join follows is told."""
+        data = SAMPLE[:121] + bytes([255, 0, 255, 2, 1])
+        lines = dumped(data)
+        self.assertEqual(
+            lines[:4],
+            [
+                "FILE: 126 bytes, 3 tables, 11 rows, plan (table0 (table2 table1))",
+                "within the rules: no answer from 1 to 9 is due; the scratch needed is 96 words, a result has 4 "
+                "values",
+                "the plan as sent, (table0 (table2 table1)), is not well-behaved: the join follows "
+                "(table0 (table1 table2)), bytes ff 00 ff 01 02",
+                "penalty: 3 rows = 3 (table2, at byte 2 as sent)",
+            ],
+        )
+        shown = [line.split("index ")[1] for line in lines if " index " in line]
+        self.assertEqual(
+            [re.sub(" +", " ", line) for line in shown],
+            ["0 join on a1; not well-behaved", "1 table 0", "2 join on a2", "3 table 2", "4 table 1"],
+        )
+        self.assertEqual(len(dumped(SAMPLE)) + 2, len(lines))
+        self.assertEqual(dumped(data, answer=(10, 96))[4], "answer 10 96: the scratch is too short")
+        self.assertIn("but this file needs 96 words", dumped(data, answer=(10, 95))[4])
 
     def test_names_of_another_file(self):
         self.command("pack", self.at("out"), "--plan", SAMPLE_PLAN, *CSVS)
@@ -309,12 +333,10 @@ class Packing(Folder):
         self.pack("--plan", ' ( 0("exposures"  2) )', *CSVS)
         self.assertEqual(self.read("out"), SAMPLE)
 
-    def test_not_well_behaved(self):
-        plan = "(frames (readings exposures))"
+    def test_side_without_holder(self):
+        plan = "((frames readings) exposures)"
         self.refused(
-            "refused 9 0: .* is on exposure, but readings, the leftmost table on the right, has no exposure; nothing "
-            "is "
-            "written",
+            "refused 9 0: .* is on exposure and reading, but no table on the left has them all; .*; nothing is",
             "--plan",
             plan,
             *CSVS,
@@ -322,7 +344,22 @@ class Packing(Folder):
         )
         _, err = self.pack("--anyway", "--plan", plan, *CSVS)
         self.assertIn("note: refused 9 0", err)
-        self.assertEqual(self.read("out"), samples()["p2_second_and_third_table_swapped"])
+        self.assertEqual(self.read("out"), SAMPLE[:121] + bytes([255, 255, 0, 2, 1]))
+
+    def test_not_well_behaved(self):
+        """Such a plan is packed as it was given: the join mends it."""
+        self.assertEqual(self.pack("--plan", "(frames (readings exposures))", *CSVS)[1], "")
+        self.assertEqual(self.read("out"), SAMPLE[:121] + bytes([255, 0, 255, 2, 1]))
+
+    def test_scratch_of_the_mended_plan(self):
+        """The note speaks of the words that the mended plan (a (b c)) needs: 8 a row, and the rows of a and b."""
+        for rows, note in (((910, 10, 905), ""), ((10, 1802, 10), "pigrozd join takes the file with 16,388\n")):
+            tables = [
+                self.write(name + ".csv", header + "\n" + (line + "\n") * n)
+                for name, header, line, n in zip("abc", ("x", "x,y", "y"), ("1", "1,2", "2"), rows)
+            ]
+            _, err = self.pack("--plan", "(a (c b))", *tables)
+            self.assertTrue(err.endswith(note) if note else err == "", err)
 
     def test_texts(self):
         left = self.write("left.csv", 'panel,state\nnorth,1\n"a ""b"", c",2\nsüd ,3\nöst,4\n')
@@ -538,7 +575,7 @@ class RowsOfPrints(Folder):
 
     def test_refused(self):
         self.fails(
-            r"standard input: refused 9 0: the plan is not well-behaved .*; pigrozd dump .*out --answer 9 0 shows",
+            r"standard input: refused 9 0: a join has a side .*; pigrozd dump .*out --answer 9 0 shows the place",
             "rows",
             self.at("out"),
             stdin=b"refused 9 0\n",
@@ -607,7 +644,7 @@ join on exposure, byte 0 of the plan
     |-- exposures: 4 rows (exposure, reading)
     `-- readings: 3 rows (reading, centikelvin)
 
-the plan is well-behaved
+the plan is well-behaved, and the join follows it as it is
 scratch needed: 96 words
 a result: frame, exposure, reading, centikelvin
 """
@@ -615,23 +652,37 @@ a result: frame, exposure, reading, centikelvin
         self.assertEqual(self.command("plan", SAMPLE_PLAN, "--tables", *CSVS)[0], tree)
         self.assertEqual(self.command("plan", self.at("out"), "--plan", SAMPLE_PLAN)[0], tree)
 
-    def test_not_well_behaved(self):
-        out, _ = self.command("plan", "(frames (readings exposures))", "--tables", *CSVS, status=1)
-        self.assertIn("NOT well-behaved: readings, the leftmost table on the right, has no exposure", out)
-        self.assertIn("answer 9, detail 0: the plan is not well-behaved at 1 join", out)
+    def test_side_without_holder(self):
         out, _ = self.command("plan", "((frames readings) exposures)", "--tables", *CSVS, status=1)
-        self.assertIn("NOT well-behaved: frames, the leftmost table on the left, has no reading\n", out)
-        self.assertIn("join on nothing (every pair matches), byte 1", out)
-        out, _ = self.command("plan", "((a b) (c d))", "--tables", "a=p", "b=q,r", "c=p", "d=q,r", status=1)
         self.assertIn(
-            "a, the leftmost table on the left, has no q and no r; c, the leftmost table on the right, has no q and",
-            out,
+            "join on exposure, reading, byte 0 of the plan\n|     REFUSED: no table on the left has them all\n", out
         )
+        self.assertIn("join on nothing (every pair matches), byte 1", out)
+        self.assertTrue(
+            out.endswith(
+                "\nanswer 9, detail 0: a join has a side where no table holds its join attributes, at 1 join\n"
+                "name tables that share attributes next to each other\n"
+            )
+        )
+        out, _ = self.command("plan", "((a b) (c d))", "--tables", "a=p", "b=q,r", "c=p", "d=q,r", status=1)
+        self.assertIn("|     REFUSED: no table on the left and none on the right has them all\n", out)
+        for absent in ("NOT well-behaved", "looked up", "scratch", "as mended"):
+            self.assertNotIn(absent, out)
 
     def test_tables_without_rows(self):
         out, _ = self.command("plan", "(a b)", "--tables", "a=x,y", "b=y")
         self.assertIn("a (rows not known) looked up in b (rows not known)", out)
+        self.assertIn("the plan is well-behaved, and the join follows it as it is\n", out)
         self.assertNotIn("scratch", out)
+
+    def test_mended_tables_without_rows(self):
+        """The rows of all tables decide how a plan is mended, so it is not drawn as mended if one is not known."""
+        for tables in (CSVS[:2] + ["readings=reading,centikelvin"], ["frames=f,e", "exposures=e,r", "readings=r"]):
+            out, _ = self.command("plan", "(frames (readings exposures))", "--tables", *tables)
+            self.assertIn("NOT well-behaved: readings, the leftmost table on the right, has no ", out)
+            self.assertIn("\nthe plan is not well-behaved: it is mended by the tables' rows, which are not all", out)
+            for absent in ("root", "looked up", "as sent", "as mended", "penalty", "scratch"):
+                self.assertNotIn(absent, out)
 
     def test_bad_files(self):
         known = samples()
@@ -641,7 +692,7 @@ a result: frame, exposure, reading, centikelvin
             ("8 3", known["p7_table_named_twice"]),
         ):
             self.assertEqual(self.fails("refused " + answer, "plan", self.write("bad", data), status=1), "")
-        self.assertIn("the plan is well-behaved", self.command("plan", self.at("bad"), "--plan", "(0 (1 2))")[0])
+        self.assertIn("the plan is well-behaved, ", self.command("plan", self.at("bad"), "--plan", "(0 (1 2))")[0])
         self.fails("no table is called x", "plan", self.at("bad"), "--plan", "(0 (1 x))")
         self.fails(
             "refused 8 3: .*names table0 a second time", "plan", self.at("bad"), "--plan", "(0 (0 1))", status=1
@@ -657,15 +708,18 @@ a result: frame, exposure, reading, centikelvin
 
     def test_dot(self):
         quoted = "say x \\ y"
-        out, _ = self.command(
-            "plan", "(a (c b))", "--tables", "a=" + quoted, "b=p," + quoted, "c=p", "--dot", status=1
-        )
-        self.assertIn('n0 [label="join on say x \\\\ y, byte 0 of the plan\\n', out)
-        self.assertIn("color=red", out)
-        self.assertEqual(out.count("->"), 4)
+        tables = ["a=q," + quoted, "b=p," + quoted, "c=p,q"]
+        out, _ = self.command("plan", "(a (c b))", "--tables", *tables, "--dot", status=1)
+        self.assertIn('n0 [label="join on q, say x \\\\ y, byte 0 of the plan\\nREFUSED: no table on the right', out)
+        self.assertEqual((out.count(" color=red"), out.count("->"), out.count("subgraph")), (1, 4, 0))
+        mended, _ = self.command("plan", "(frames (readings exposures))", "--tables", *CSVS, "--dot")
+        for line in ('    label="as sent:";', '    label="as mended:";', "    n0 -> n2 [label", "    m0 -> m2 [label"):
+            self.assertEqual(mended.count(line), 1)
+        self.assertEqual((mended.count(" color=orange"), mended.count(" color=red")), (1, 0))
+        self.assertEqual((mended.count("{"), mended.count("}"), mended.count("->")), (3, 3, 8))
         if shutil.which("dot"):
             other = self.command("plan", self.write("out", samples()["tables_16_in_a_row"]), "--dot")[0]
-            for text in (out, other):
+            for text in (out, mended, other):
                 svg = subprocess.run(["dot", "-Tsvg"], input=text.encode(), stdout=subprocess.PIPE, check=True).stdout
                 self.assertIn(b"</svg>", svg)
 

@@ -31,14 +31,15 @@ class Reading(unittest.TestCase):
         self.assertEqual(seen, {0, 1, 2, 3, 4, 5, 6, 7, 8, 9})
 
     def test_figures_of_the_samples(self):
-        """Scratch needed, values, keys, and the bound of demand 3, which the reference's counts keep."""
+        """Scratch needed, values, keys, and the bound of demand 3, which the reference's counts keep. Scratch and
+        bound are those of the mended plan."""
         for name, data in samples().items():
             file = fileformat.read(data)
             if file.fault:
                 continue
             with self.subTest(name):
                 tables, code = reference.read(data)
-                need = plans.words_needed(file.plan, file.tables)
+                need = plans.words_needed(file.mended.plan, file.tables)
                 if need:
                     self.assertEqual(reference.outcome(data, need - 1, 0)[:2], (10, need))
                 self.assertEqual(
@@ -52,7 +53,7 @@ class Reading(unittest.TestCase):
                 )
                 number, _, rows, counts = reference.outcome(data, 100000, 100000)
                 if number == 0:
-                    bound, _ = plans.work_bound(file.plan, file.tables, len(rows))
+                    bound, _ = plans.work_bound(file.mended.plan, file.tables, len(rows))
                     self.assertLessEqual(sum(counts) + sum(map(len, rows)), bound)
 
     def test_bound_of_the_sample(self):
@@ -60,16 +61,20 @@ class Reading(unittest.TestCase):
         self.assertEqual(plans.work_bound(file.plan, file.tables, 4), (1150, "(32 * 1 + 2) * 3 * 11 + (3 + 4) * 4"))
 
     def test_drawings(self):
-        """The first join that is not well-behaved is the reference's."""
+        """The first join that is refused is the reference's. A plan is drawn twice if it is not well-behaved."""
         for name, data in samples().items():
             number, detail = expected(data)
             if number in (0, 9):
                 file = fileformat.read(data)
                 drawing = Drawing(file.plan, file.tables, names.Names())
-                broken = drawing.broken()
-                self.assertEqual((9, broken[0].index) if broken else (0, 0), (number, detail), name)
-                self.assertEqual("\n".join(drawing.tree()).count("NOT well-behaved"), len(broken))
-                self.assertEqual("\n".join(drawing.dot()).count("NOT well-behaved"), len(broken))
+                refused = drawing.refused
+                self.assertEqual((9, refused[0].index) if refused else (0, 0), (number, detail), name)
+                behaved = not any(plans.lacking(join, file.tables) for join in plans.joins_of(file.plan))
+                for lines in (drawing.tree(), drawing.dot()):
+                    text = "\n".join(lines)
+                    self.assertEqual(text.count("REFUSED"), len(refused), name)
+                    self.assertEqual("as mended:" in text, not (refused or behaved), name)
+                    self.assertEqual(" and the join follows it as it is" in text, behaved, name)
 
 
 class Writing(unittest.TestCase):
@@ -97,7 +102,7 @@ class PlanText(unittest.TestCase):
         for data in samples().values():
             file = fileformat.read(data)
             if file.plan:
-                text = plans.to_text(file.plan, known)
+                text = plans.to_text(file.plan, known.table)
                 self.assertEqual(plans.code_of(text, [known.table(t) for t in range(len(file.tables))]), file.code)
                 done += 1
         self.assertGreater(done, 80)

@@ -1,6 +1,6 @@
 /* Tests include/pigrozd.h as C99 and as C++ against the library: that each name of an answer is the number that is given under
- * its condition, that the limits are those at which answers change, that a value which was not recorded matches nothing, and
- * that the version is said alike everywhere.
+ * its condition, that the limits are those at which answers change, that a plan is mended, that a value which was not recorded
+ * matches nothing, and that the version is said alike everywhere.
  * make check-c runs it. It prints nothing and ends with 0, or prints each test that failed and ends with 1. */
 #include "pigrozd.h"
 
@@ -121,8 +121,9 @@ static void test_answers(void)
     put_table(1, 0);
     put_table(2, 0);
     put_table(3, 0);
-    put_plan("\377\0\377\1\2", 5);
-    EXPECT_ANSWER(PIGROZD_NOT_WELL_BEHAVED, 0);
+    put_plan("\377\377\0\1\2", 5);
+    EXPECT_ANSWER(PIGROZD_NO_HOLDER, 0);
+    EXPECT(PIGROZD_NOT_WELL_BEHAVED, PIGROZD_NO_HOLDER);
 
     put_tables(2, 3);
     EXPECT(lent(50, 3).number, PIGROZD_SCRATCH_SHORT);
@@ -215,6 +216,35 @@ static void test_limits(void)
     EXPECT_ANSWER(PIGROZD_OUTPUT_SHORT, PIGROZD_HOLD_LIMIT);
 }
 
+/* a plan that is mended: tables 0 with (2 with 1), where 0 and 1 share attribute 1 and 1 and 2 attribute 2. Table 0 has one row
+ * and 2 has two, so the join follows 2 with (1 with 0): the words needed are 8 * 7, and the rows of 2 and of 1 */
+static void test_mended(void)
+{
+    static const uint32_t wanted[] = {9, 5, 8, 6, 9, 5, 7, 6};
+    unsigned i;
+
+    length = 0;
+    put_table(3, 1);
+    put_word(9);
+    put_word(5);
+    put_table(6, 4);
+    for (i = 0; i < 4; i++)
+        put_word(5);
+    for (i = 0; i < 4; i++)
+        put_word(i == 0 ? 7 : i == 1 ? 8 : 1);
+    put_table(12, 2);
+    put_word(8);
+    put_word(7);
+    put_word(6);
+    put_word(6);
+    put_plan("\377\0\377\2\1", 5);
+    EXPECT(lent(61, 8).number, PIGROZD_SCRATCH_SHORT);
+    EXPECT(lent(61, 8).detail, 62);
+    EXPECT(lent(62, 8).number, PIGROZD_JOINED);
+    for (i = 0; i < 8; i++)
+        EXPECT(output[i], wanted[i]);
+}
+
 /* a table of one row, with these values in the attributes of its mask */
 static void put_row(uint32_t mask, uint32_t first, uint32_t second)
 {
@@ -279,6 +309,7 @@ int main(void)
 {
     test_answers();
     test_limits();
+    test_mended();
     test_not_recorded();
     test_lengths();
     test_version();

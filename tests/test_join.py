@@ -98,12 +98,13 @@ class Joining(Folder):
     def test_a_refusal_writes_nothing(self):
         self.write("joined.csv", "before\n")
         self.fails(
-            "refused 9 0: .*: the join of frames with readings and exposures is on exposure, but readings, the "
-            "leftmost table on the right, has no exposure; --explain draws the plan",
+            "refused 9 0: .*: the join of frames and readings with exposures, byte 0 of the plan, is on exposure and "
+            "reading, but no table on the left has them all; name tables that share attributes next to each other; "
+            "--explain draws the plan",
             "join",
             *CSVS,
             "--plan",
-            "(frames (readings exposures))",
+            "((frames readings) exposures)",
             "-o",
             self.at("joined.csv"),
             status=1,
@@ -139,11 +140,11 @@ class Joining(Folder):
             self.write("table.txt", "x\n1\n"),
             status=1,
         )
-        bad = self.write("bad", samples()["p3_left_plan_joined_first"])
+        bad = self.write("bad", SAMPLE[:121] + bytes([255, 255, 0, 2, 1]))
         self.fails("bad: refused 9 0: .*; pigrozd dump .*bad shows it", "join", bad, status=1)
         self.fails("bad: refused 8 1: .* it leaves out table1 and table2$", "join", bad, "--plan", "0", status=1)
-        drawn = r"refused 9 0: .*; pigrozd plan .*bad --plan '\(0 .* shows it"
-        self.fails(drawn, "join", bad, "--plan", "(0 (2 1))", status=1)
+        drawn = r"refused 9 0: .*; pigrozd plan .*bad --plan '\(1 .* shows it"
+        self.fails(drawn, "join", bad, "--plan", "(1 (2 0))", status=1)
         cut = self.write("cut", SAMPLE[:50])
         self.fails("refused 1 42: .*; pigrozd dump .*cut shows it", "join", cut, "--plan", "0", status=1)
         self.fails(
@@ -161,15 +162,33 @@ class Joining(Folder):
         for line in (
             "join on exposure, byte 0 of the plan",
             "|-- frames: 4 rows (frame, exposure)",
-            "the plan is well-behaved",
+            "the plan is well-behaved, and the join follows it as it is",
         ):
             self.assertIn(line + "\n", err)
         found = [line.rsplit(None, 1) for line in err.splitlines()[-10:-1]]
         self.assertEqual([number for _, number in found], ["11", "4", "6", "8", "19", "10", "16", "59", "1,150"])
         self.assertTrue(err.endswith("= (32 * 1 + 2) * 3 * 11 + (3 + 4) * 4\n"))
-        _, err = self.command("join", *CSVS, "--plan", "(frames (readings exposures))", "--explain", status=1)
-        self.assertRegex(err, "NOT well-behaved: readings, (.|\n)*refused 9 0")
+        _, err = self.command("join", *CSVS, "--plan", "((frames readings) exposures)", "--explain", status=1)
+        self.assertRegex(err, "REFUSED: no table on the left (.|\n)*refused 9 0: .* each other\n$")
         self.assertNotIn("entries", err)
+        self.assertNotIn("--explain", err)
+
+    def test_explain_mended(self):
+        """The plan that is followed is drawn alone, and the work beside its bound is that of the join by it."""
+        drawn = self.command("join", *CSVS, "--plan", SAMPLE_PLAN, "--explain")
+        told = "the plan is well-behaved, and the join follows it as it is\n"
+        for plan, penalty in (
+            ("(frames (readings exposures))", "penalty: 3 rows = 3 (readings, at byte 2 as sent)"),
+            ("((frames exposures) readings)", "penalty: 0 rows"),
+        ):
+            instead = "the plan as sent, %s, is not well-behaved: the join follows %s, bytes ff 00 ff 01 02\n%s\n" % (
+                plan,
+                SAMPLE_PLAN,
+                penalty,
+            )
+            explained = self.command("join", *CSVS, "--plan", plan, "--explain")
+            self.assertEqual(explained, (drawn[0], drawn[1].replace(told, instead)))
+            self.assertEqual(self.command("join", *CSVS, "--plan", plan), (ROWS, ""))
 
     def test_texts(self):
         left = self.write("left.csv", "panel,state\nnorth,1\nsouth,2\n")
@@ -229,7 +248,7 @@ class Streams(Folder):
 
     def test_status(self):
         self.assertEqual(self.process("join", *CSVS, "--plan", SAMPLE_PLAN).stdout.decode(), ROWS)
-        self.assertEqual(self.process("join", *CSVS, "--plan", "(frames (readings exposures))").returncode, 1)
+        self.assertEqual(self.process("join", *CSVS, "--plan", "((frames readings) exposures)").returncode, 1)
         self.assertEqual(self.process("join", self.at("none.csv")).returncode, 2)
         self.assertEqual(self.process("join").returncode, 2)
 

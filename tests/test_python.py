@@ -3,6 +3,7 @@ import array
 import collections
 import copy
 import ctypes
+import dataclasses
 import datetime
 import decimal
 import doctest
@@ -68,6 +69,20 @@ class Joins(unittest.TestCase):
         for plan in (("frames", ("exposures", "readings")), ["frames", (1, "readings")], '("frames" (exposures 2))'):
             with self.subTest(plan=plan):
                 self.assertEqual(list(pigrozd.join(NAMED, plan)), ROWS)
+
+    def test_mended_plans(self):
+        """A plan that is not well-behaved is mended, and the result names the plan that was followed."""
+        for plan in ("(frames (readings exposures))", "((frames exposures) readings)", ("frames", (2, "exposures"))):
+            with self.subTest(plan=plan):
+                result = pigrozd.join(NAMED, plan)
+                self.assertEqual((list(result), result.counts), (ROWS, (6, 8, 19, 10)))
+                self.assertEqual((result.plan, result.plan_bytes), (SAMPLE_PLAN, b"\xff\0\xff\1\2"))
+                self.assertTrue(result.mended)
+                self.assertEqual(pigrozd.join(NAMED, result.plan), dataclasses.replace(result, mended=False))
+        longer = dict(NAMED, readings={"reading": [7, 7, 9, 5, 5], "centikelvin": [29510, 29510, 29530, 0, 0]})
+        result = pigrozd.join(longer, "(frames (readings exposures))")
+        self.assertEqual(result.plan, "(readings (exposures frames))")
+        self.assertEqual(list(result), [ROWS[0], ROWS[0], ROWS[2], ROWS[3]])
 
     def test_one_table_needs_no_plan(self):
         self.assertEqual(list(pigrozd.join([{31: [5, 5, 0]}])), [(5,), (5,), (0,)])
@@ -292,23 +307,23 @@ class Refusals(unittest.TestCase):
             9,
             0,
             None,
-            "the join of table 0 with table 2 and table 1 is on attribute 1, but table 2, the leftmost table on "
-            "the right, has no attribute 1$",
+            "the join of table 0 and table 2 with table 1, byte 0 of the plan, is on attribute 1 and attribute 2, but "
+            "no table on the left has them all; name tables that share attributes next to each other$",
             pigrozd.join,
             TABLES,
-            (0, (2, 1)),
+            ((0, 2), 1),
         )
 
     def test_named_tables(self):
         self.refused(
             9,
-            0,
+            2,
             None,
-            "the join of frames and exposures with readings is on reading, but frames, the leftmost table on "
-            "the left, has no reading$",
+            "the join of exposures with readings and frames, byte 2 of the plan, is on exposure and reading, but no "
+            "table on the right has them all; name ",
             pigrozd.join,
-            NAMED,
-            "((frames exposures) readings)",
+            dict(NAMED, centres={"centikelvin": [29510]}),
+            "(centres (exposures (readings frames)))",
         )
         self.refused(8, 3, None, "leaves out readings", pigrozd.join, NAMED, ("frames", "exposures"))
         self.refused(4, 0, 0, "long has 5,000 rows", pigrozd.join, {"long": {"x": range(5000)}})
@@ -346,6 +361,16 @@ class Refusals(unittest.TestCase):
             [{0: [1] * 4096, 1: [1] * 4096}, {0: [1] * 4096, 2: [1] * 4096}],
             (0, 1),
         )
+        mended = {"big": {"u": range(1024)}, "a": {"x": [1]}, "b": {"x": [1], "y": [1]}, "c": {"y": [1] * 1024}}
+        self.refused(
+            11,
+            1024 * 1024,
+            None,
+            "fits 349,525; the join of big with a, b and c is on no attribute, so that every pair matches$",
+            pigrozd.join,
+            mended,
+            "((big (a b)) c)",
+        )
         self.refused(
             11,
             4294967295,
@@ -364,6 +389,36 @@ class Refusals(unittest.TestCase):
         self.assertEqual(pigrozd.MEANINGS, {int(number): (means, detail) for number, means, detail in rows})
         for number in pigrozd.MEANINGS:
             self.assertTrue(os.path.exists(path("docs", "answers", "%02d.md" % number)))
+
+
+class PlanOfAResult(Folder):
+    """The text of the plan that was followed is one that a join of the same tables takes."""
+
+    def test_as_given(self):
+        result = pigrozd.join(NAMED, SAMPLE_PLAN)
+        self.assertEqual((result.plan, result.plan_bytes, result.mended), (SAMPLE_PLAN, SAMPLE[-5:], False))
+        self.assertEqual(pigrozd.join([{"x": [5]}]).plan, "0")
+        self.assertEqual(pigrozd.join({"a": {"x": [5]}}).plan, "a")
+
+    def test_tables_without_names(self):
+        self.assertEqual(pigrozd.join(TABLES, ((1, 0), 2)).plan, "((1 0) 2)")
+        self.assertEqual(pigrozd.join(TABLES, (0, (2, 1))).plan, "(0 (1 2))")
+        self.assertEqual(pigrozd.join_file(SAMPLE).plan, "(0 (1 2))")
+
+    def test_file_with_names(self):
+        place = self.write("sample", SAMPLE[:-5] + b"\xff\0\xff\2\1")
+        self.write("sample.names", "0 frame\n1 exposure\n2 reading\n3 kelvin\ntable 0 frames\ntable 2 all of it\n")
+        result = pigrozd.join_file(place)
+        self.assertEqual((result.plan, result.mended), ('(frames (1 "all of it"))', True))
+
+    def test_names_of_any_kind(self):
+        columns = [{"x": [1], "y": [2]}, {"y": [2], "z": [3]}, {"z": [3]}]
+        for called in (("a b", "(c)", " d"), ("2", "0", "1"), ('a"', "b", '"'), ("a\nb", "süd", "x")):
+            with self.subTest(called=called):
+                tables = dict(zip(called, columns))
+                result = pigrozd.join(tables, (0, (2, 1)))
+                self.assertTrue(result.mended)
+                self.assertEqual(pigrozd.join(tables, result.plan).plan_bytes, result.plan_bytes)
 
 
 class Results(unittest.TestCase):

@@ -1,45 +1,14 @@
 //! The files of the bench, made from fixed seeds: tables, a plan, and the bytes of document 01.
 
+use std::rc::Rc;
+
+use crate::plans::{join, left_deep, right_deep, Plan, Plan::Table as Leaf};
+
 /// What stands for a reading that was never taken. It matches nothing, not even itself.
 pub const NOT_RECORDED: u32 = u32::MAX;
 
-pub enum Plan {
-    Table(usize),
-    Join(Box<Plan>, Box<Plan>),
-}
-
-use Plan::Table as Leaf;
-
-fn join(left: Plan, right: Plan) -> Plan {
-    Plan::Join(Box::new(left), Box::new(right))
-}
-
-impl Plan {
-    /// The tables in plan order.
-    pub fn order(&self) -> Vec<usize> {
-        match self {
-            Plan::Table(t) => vec![*t],
-            Plan::Join(l, r) => [l.order(), r.order()].concat(),
-        }
-    }
-
-    fn code(&self) -> Vec<u8> {
-        match self {
-            Plan::Table(t) => vec![*t as u8],
-            Plan::Join(l, r) => [vec![255], l.code(), r.code()].concat(),
-        }
-    }
-
-    /// The rows of the left plan's leftmost table, summed over joins.
-    fn left_rows(&self, tables: &[Table]) -> usize {
-        match self {
-            Plan::Table(_) => 0,
-            Plan::Join(l, r) => tables[l.order()[0]].rows() + l.left_rows(tables) + r.left_rows(tables),
-        }
-    }
-}
-
 /// Columns by attribute, attributes rising.
+#[derive(Clone)]
 pub struct Table {
     pub attributes: Vec<u32>,
     pub columns: Vec<Vec<u32>>,
@@ -49,52 +18,68 @@ impl Table {
     pub fn rows(&self) -> usize {
         self.columns[0].len()
     }
+
+    pub fn mask(&self) -> u32 {
+        self.attributes.iter().fold(0, |m, a| m | 1 << a)
+    }
 }
 
-fn table(columns: Vec<(u32, Vec<u32>)>) -> Table {
+pub fn table(columns: Vec<(u32, Vec<u32>)>) -> Table {
     let (attributes, columns): (Vec<u32>, Vec<Vec<u32>>) = columns.into_iter().unzip();
     assert!(attributes.windows(2).all(|a| a[0] < a[1]));
     Table { attributes, columns }
 }
 
+/// The bytes of a file.
+pub fn bytes(tables: &[Table], plan: &Plan) -> Vec<u8> {
+    let mut file = Vec::new();
+    for t in tables {
+        file.extend(b"TB");
+        file.extend(t.mask().to_le_bytes());
+        file.extend((t.rows() as u32).to_le_bytes());
+        for column in &t.columns {
+            assert_eq!(column.len(), t.rows());
+            file.extend(column.iter().flat_map(|v| v.to_le_bytes()));
+        }
+    }
+    let code = plan.code();
+    file.extend(b"PL");
+    file.push(code.len() as u8);
+    file.extend(&code);
+    file
+}
+
 pub struct Input {
     pub tables: Vec<Table>,
+    /// The plan in the file, and the one that is followed: another one if the file's is not well-behaved.
     pub plan: Plan,
+    pub followed: Plan,
     pub file: Vec<u8>,
     pub scratch_words: usize,
     pub width: usize,
 }
 
 impl Input {
-    fn new(tables: Vec<Table>, plan: Plan) -> Input {
-        let mut file = Vec::new();
-        let mut all = 0u32;
-        for t in &tables {
-            let mask = t.attributes.iter().fold(0, |m, a| m | 1u32 << a);
-            all |= mask;
-            file.extend(b"TB");
-            file.extend(mask.to_le_bytes());
-            file.extend((t.rows() as u32).to_le_bytes());
-            for column in &t.columns {
-                assert_eq!(column.len(), t.rows());
-                file.extend(column.iter().flat_map(|v| v.to_le_bytes()));
-            }
-        }
-        let code = plan.code();
-        file.extend(b"PL");
-        file.push(code.len() as u8);
-        file.extend(&code);
+    pub fn new(tables: Vec<Table>, plan: Plan) -> Input {
+        let file = bytes(&tables, &plan);
+        let followed = plan.mended(&tables).expect("a plan that can be mended");
         let all_rows: usize = tables.iter().map(Table::rows).sum();
-        let scratch_words = 8 * all_rows + plan.left_rows(&tables);
-        Input { tables, plan, file, scratch_words, width: all.count_ones() as usize }
+        let scratch_words = 8 * all_rows + followed.left_rows(&tables);
+        let width = tables.iter().fold(0, |m, t| m | t.mask()).count_ones() as usize;
+        Input { tables, plan, followed, file, scratch_words, width }
+    }
+
+    /// The same tables in a file whose plan is the one that is followed, where the file's is another one.
+    pub fn partner(&self) -> Option<Input> {
+        (self.plan != self.followed).then(|| Input::new(self.tables.clone(), self.followed.clone()))
     }
 }
 
 /// SplitMix64.
-struct Random(u64);
+pub struct Random(pub u64);
 
 impl Random {
-    fn next(&mut self) -> u64 {
+    pub fn next(&mut self) -> u64 {
         self.0 = self.0.wrapping_add(0x9e37_79b9_7f4a_7c15);
         let mut z = self.0;
         z = (z ^ (z >> 30)).wrapping_mul(0xbf58_476d_1ce4_e5b9);
@@ -102,11 +87,11 @@ impl Random {
         z ^ (z >> 31)
     }
 
-    fn below(&mut self, n: usize) -> usize {
+    pub fn below(&mut self, n: usize) -> usize {
         (self.next() % n as u64) as usize
     }
 
-    fn column(&mut self, rows: usize, mut value: impl FnMut(&mut Random, usize) -> u32) -> Vec<u32> {
+    pub fn column(&mut self, rows: usize, mut value: impl FnMut(&mut Random, usize) -> u32) -> Vec<u32> {
         (0..rows).map(|y| value(self, y)).collect()
     }
 
@@ -136,20 +121,27 @@ impl Random {
     }
 }
 
-fn right_deep(tables: usize) -> Plan {
-    (0..tables - 1).rev().fold(Leaf(tables - 1), |right, t| join(Leaf(t), right))
-}
-
-fn left_deep(tables: usize) -> Plan {
-    (1..tables).fold(Leaf(0), |left, t| join(left, Leaf(t)))
-}
-
 /// Document 01's sample file.
 fn sample() -> Input {
     let frames = table(vec![(0, vec![10, 11, 12, 13]), (1, vec![1, 2, 2, 4])]);
     let exposures = table(vec![(1, vec![1, 2, 2, 3]), (2, vec![7, 8, 9, 7])]);
     let readings = table(vec![(2, vec![7, 7, 9]), (3, vec![29510, 29510, 29530])]);
     Input::new(vec![frames, exposures, readings], right_deep(3))
+}
+
+/// The sample file, its tables with the two plans of document 01 that are not well-behaved, and a file of five tables with such a
+/// plan.
+pub fn samples() -> [Input; 4] {
+    let five = vec![
+        table(vec![(3, vec![1, 2])]),
+        table(vec![(0, vec![5]), (2, vec![7])]),
+        table(vec![(1, vec![6, 6])]),
+        table(vec![(1, vec![6, 4])]),
+        table(vec![(0, vec![5]), (2, vec![7]), (3, vec![2])]),
+    ];
+    let other = |code: &[u8]| Input::new(sample().tables, Plan::spelled(&mut code.iter().copied()));
+    let plan = Plan::spelled(&mut [255, 3, 255, 255, 0, 255, 1, 4, 2].into_iter());
+    [sample(), other(&[255, 0, 255, 2, 1]), other(&[255, 255, 0, 1, 2]), Input::new(five, plan)]
 }
 
 /// Table i has attributes i and i + 1; a row finds one partner on average in the next table, often none or several.
@@ -322,11 +314,66 @@ fn partly_recorded(input: Input, seed: u64) -> Input {
     Input::new(tables, input.plan)
 }
 
+/// The chain with a left-deep plan: from some table on, at each join the next one at either end.
+fn left_deep_chain(k: usize, n: usize, seed: u64) -> Input {
+    let mut r = Random(!seed);
+    let first = r.below(k);
+    let (mut low, mut high) = (first, first + 1);
+    let mut plan = Leaf(first);
+    while high - low < k {
+        if high == k || low > 0 && r.below(2) == 0 {
+            low -= 1;
+            plan = join(plan, Leaf(low));
+        } else {
+            plan = join(plan, Leaf(high));
+            high += 1;
+        }
+    }
+    Input::new(chain(k, n, seed).tables, plan)
+}
+
+/// The same tables, with the sides of about every second join exchanged. They are others for each seed, but never leave the plan
+/// well-behaved.
+fn sides_exchanged(input: Input, seed: u64) -> Input {
+    let mut r = Random(!seed);
+    loop {
+        let plan = input.plan.exchanged(&mut || r.below(2) == 0);
+        if plan.mended(&input.tables).as_ref() != Some(&plan) {
+            return Input::new(input.tables, plan);
+        }
+    }
+}
+
+/// The star with the sides of every join exchanged: the middle table, which every join needs, lies right at all of them.
+fn mirrored_star(k: usize, n: usize, seed: u64) -> Input {
+    let Input { tables, plan, .. } = star(k, n, seed);
+    Input::new(tables, plan.exchanged(&mut || true))
+}
+
+/// 15 tables of the same two attributes and one that shares the second, each row with one partner in each. The one is named last.
+fn equal_masks(n: usize, seed: u64) -> Input {
+    let mut r = Random(seed);
+    let mut tables: Vec<Table> = (0..15)
+        .map(|_| {
+            let key = r.permutation(n);
+            table(vec![(0, key.iter().map(|v| v / 2).collect()), (1, key)])
+        })
+        .collect();
+    tables.push(table(vec![(1, r.permutation(n)), (2, r.any(n))]));
+    Input::new(tables, left_deep(16))
+}
+
+/// The same tables with the worst plan to mend that was found. The sides are as deep as they can be, all tables of a side can be
+/// its root but for one table at one join, and this join alone breaks the rule.
+fn worst_to_mend(n: usize, seed: u64) -> Input {
+    Input::new(equal_masks(n, seed).tables, join(join(Leaf(15), left_deep(14)), Leaf(14)))
+}
+
 /// A shape with a number of rows in each table, and the files of it: one for each seed.
 pub struct Case {
     pub shape: String,
     pub rows: usize,
-    make: Box<dyn Fn(u64) -> Input>,
+    make: Rc<dyn Fn(u64) -> Input>,
 }
 
 impl Case {
@@ -343,19 +390,53 @@ impl Case {
     pub fn files(&self) -> Vec<Input> {
         (1..=(4096 / self.rows).min(64) as u64).map(|seed| (self.make)(seed)).collect()
     }
+
+    /// The same tables in files whose plans are the mended ones, where the plans are not well-behaved.
+    pub fn partner(&self) -> Option<Case> {
+        self.first().partner()?;
+        let make = self.make.clone();
+        let partner = move |seed| make(seed).partner().expect("a plan that is not well-behaved");
+        Some(case(&format!("{}, mended", self.shape), self.rows, partner))
+    }
 }
 
-pub fn all() -> Vec<Case> {
+type Shape = fn(usize, usize, u64) -> Input;
+
+/// Each shape, and its tables with plans that are not well-behaved.
+const SHAPES: [(&str, Shape, &str, Shape); 3] = [
+    ("chain", chain, "left-deep", left_deep_chain),
+    ("star", star, "sides exchanged", |k, n, seed| sides_exchanged(star(k, n, seed), seed)),
+    ("snowflake", snowflake, "sides exchanged", |k, n, seed| sides_exchanged(snowflake(k, n, seed), seed)),
+];
+
+fn case(shape: &str, rows: usize, make: impl Fn(u64) -> Input + 'static) -> Case {
+    Case { shape: shape.into(), rows, make: Rc::new(make) }
+}
+
+/// The shapes by their numbers of tables. Plans that are not well-behaved stand behind those that are.
+fn shapes() -> Vec<Case> {
     let mut all = Vec::new();
-    let mut add = |shape: &str, rows: usize, make: Box<dyn Fn(u64) -> Input>| all.push(Case { shape: shape.into(), rows, make });
-    add("sample", 4, Box::new(|_| sample()));
-    for (name, shape) in [("chain", chain as fn(usize, usize, u64) -> Input), ("star", star), ("snowflake", snowflake)] {
+    for (name, shape, how, ill_behaved) in SHAPES {
         for k in [5, 9, 16] {
             for n in [64, 512, 4096] {
-                add(&format!("{name} of {k}"), n, Box::new(move |seed| shape(k, n, seed)));
+                all.push(case(&format!("{name} of {k}"), n, move |seed| shape(k, n, seed)));
+                if n == 64 || (k, n) == (16, 512) {
+                    all.push(case(&format!("{name} of {k}, {how}"), n, move |seed| ill_behaved(k, n, seed)));
+                }
+                if (name, k, n) == ("star", 16, 64) {
+                    all.push(case("star of 16, all sides exchanged", n, move |seed| mirrored_star(k, n, seed)));
+                }
             }
         }
     }
+    all.push(case("equal masks of 16", 64, |seed| equal_masks(64, seed)));
+    all.push(case("equal masks of 16, worst to mend", 64, |seed| worst_to_mend(64, seed)));
+    all
+}
+
+pub fn all() -> Vec<Case> {
+    let mut all = vec![case("sample", 4, |_| sample())];
+    all.extend(shapes());
     let others: [(&str, fn(usize, u64) -> Input); 12] = [
         ("dangling chain of 9", |n, seed| dangling_chain(9, n, seed)),
         ("dangling star of 9", |n, seed| dangling_star(9, n, seed)),
@@ -372,7 +453,7 @@ pub fn all() -> Vec<Case> {
     ];
     for (name, shape) in others {
         for n in [512, 4096] {
-            add(name, n, Box::new(move |seed| shape(n, seed)));
+            all.push(case(name, n, move |seed| shape(n, seed)));
         }
     }
     all

@@ -1,14 +1,20 @@
 //! The bench: the proved join beside an unproved twin, a HashMap join and SQLite, on the same files in one run.
 //!
-//!     bench [NAME]              the table: times as ratios, growth, instructions; of the files whose names have NAME in them
-//!     bench --quick [NAME]      the table without instructions
+//!     bench [NAME]              the tables: times as ratios, growth, instructions; what mending a plan costs; of the files whose
+//!                               names have NAME in them
+//!     bench --quick [NAME]      the tables without instructions
 //!     bench --check [NAME]      no times: whether all give the same results
-//!     bench --once [NAME]       each file once by the library and once by the twin, for callgrind
+//!     bench --once [NAME]       each file once by the library and once by the twin, for callgrind; then those with mended plans
 //!     bench --files FOLDER      writes the files
 
 mod hashmap;
 mod inputs;
 mod library;
+mod mending;
+#[cfg(test)]
+mod model;
+mod plans;
+mod small;
 mod sqlite;
 mod twin;
 
@@ -17,10 +23,14 @@ use std::process::{Command, Stdio};
 use std::time::{Duration, Instant};
 
 use inputs::{Case, Input};
+use library::Answer;
 use sqlite::{Order, Query};
 
 /// The longest output that document 01 uses.
 const OUTPUT_WORDS: usize = 1_048_576;
+
+/// How many small files with any plans are tried.
+const SMALL_FILES: u64 = 20_000;
 
 /// Buffers for one file. They are lent as the run before left them: the join zeroes its scratch itself, before and after.
 struct Buffers {
@@ -53,6 +63,9 @@ fn check(name: &str, input: &Input, queries: [&mut Query; 2]) -> Vec<u32> {
     assert_eq!(answer, twin::twin_join(&input.file, &mut two.scratch, &mut two.output), "{name}: answers");
     assert!(one.output == two.output, "{name}: outputs");
     assert!(one.scratch.iter().chain(&two.scratch).all(|&w| w == 0), "{name}: scratch");
+    if let Some(partner) = input.partner() {
+        check_partner(name, &partner, &answer, &one.output);
+    }
     let values = one.output[..answer.rows as usize * input.width].to_vec();
     let expected = summary(&values, input.width);
     assert_eq!(expected, summary(&hashmap::join(&input.file, &input.plan), input.width), "{name}: HashMap");
@@ -66,6 +79,13 @@ fn check(name: &str, input: &Input, queries: [&mut Query; 2]) -> Vec<u32> {
     let other = &mut two.output[..short.len()];
     assert_eq!(library::join(&input.file, &mut two.scratch, short), twin::twin_join(&input.file, &mut two.scratch, other));
     values
+}
+
+/// A file whose plan is mended must give what the file with the mended plan gives, in every word and count.
+fn check_partner(name: &str, partner: &Input, answer: &Answer, output: &[u32]) {
+    let mut b = Buffers::new(partner);
+    assert_eq!(*answer, library::join(&partner.file, &mut b.scratch, &mut b.output), "{name}: answer of the mended plan");
+    assert!(output == b.output, "{name}: output of the mended plan");
 }
 
 /// What no join can do without: each byte of the file read once, each word of the results written once.
@@ -92,6 +112,22 @@ fn check_damaged(file: &[u8]) {
     }
 }
 
+/// The twin must do with any plan what the library does: small files of up to 16 tables, with buffers that are too short for some.
+fn check_plans() {
+    let (mut mended, mut refused) = (0, 0);
+    for seed in 0..SMALL_FILES {
+        let (tables, plan) = small::tables_and_plan(1 + seed as usize % 16, seed);
+        let file = inputs::bytes(&tables, &plan);
+        let (mut s, mut o) = ([7; 500], [7; 2000]);
+        let (mut t, mut p) = (s, o);
+        let answer = library::join(&file, &mut s, &mut o);
+        assert_eq!((answer, s, o), (twin::twin_join(&file, &mut t, &mut p), t, p), "{file:?}");
+        refused += u64::from(answer.number == 9);
+        mended += u64::from(plan.mended(&tables).is_some_and(|m| m != plan));
+    }
+    println!("{SMALL_FILES} small files: library and twin agree; {mended} plans mended, {refused} refused by answer 9");
+}
+
 fn check_all(cases: &[Case]) {
     for case in cases {
         let input = case.first();
@@ -99,7 +135,8 @@ fn check_all(cases: &[Case]) {
         let [forced, free] = &mut queries;
         let results = check(&case.name(), &input, [forced, free]).len() / input.width;
         if case.shape == "sample" {
-            check_damaged(&input.file);
+            inputs::samples().iter().for_each(|s| check_damaged(&s.file));
+            check_plans();
         }
         let mut b = Buffers::new(&input);
         let a = library::join(&input.file, &mut b.scratch, &mut b.output);
@@ -170,14 +207,12 @@ fn instructions(count: usize, name: &str) -> Option<Vec<[u64; 2]>> {
     (ran && totals.len() == 2 * count).then(|| totals.chunks_exact(2).map(|p| [p[0], p[1]]).collect())
 }
 
-fn once(cases: &[Case]) {
-    for case in cases {
-        let input = case.first();
-        let mut b = Buffers::new(&input);
-        println!("{}", case.name());
-        black_box(library::join(&input.file, &mut b.scratch, &mut b.output));
-        black_box(twin::twin_join(&input.file, &mut b.scratch, &mut b.output));
-    }
+fn once(case: &Case) {
+    let input = case.first();
+    let mut b = Buffers::new(&input);
+    println!("{}", case.name());
+    black_box(library::join(&input.file, &mut b.scratch, &mut b.output));
+    black_box(twin::twin_join(&input.file, &mut b.scratch, &mut b.output));
 }
 
 fn ratio(x: f64) -> String {
@@ -188,31 +223,80 @@ fn ratio(x: f64) -> String {
     }
 }
 
-const HEADS: [&str; 11] = [
-    "file x rows in each table",
-    "results",
-    "library, us",
-    "twin",
-    "HashMap",
-    "SQLite forced",
-    "SQLite free",
-    "limit",
-    "growth",
-    "instructions",
-    "/ twin",
+/// A column's head and its width.
+type Column = (&'static str, usize);
+
+const COLUMNS: [Column; 11] = [
+    ("file x rows in each table", 39),
+    ("results", 7),
+    ("library, us", 11),
+    ("twin", 5),
+    ("HashMap", 7),
+    ("SQLite forced", 13),
+    ("SQLite free", 11),
+    ("limit", 5),
+    ("growth", 9),
+    ("instructions", 12),
+    ("/ twin", 7),
 ];
 
-const WIDTHS: [usize; 11] = [39, 7, 11, 5, 7, 13, 11, 5, 9, 12, 7];
+const MENDING_COLUMNS: [Column; 8] = [
+    ("plan that is mended x rows in each table", 40),
+    ("join, us", 8),
+    ("mending, us", 11),
+    ("/ join", 6),
+    ("twin, us", 8),
+    ("instructions", 12),
+    ("/ join", 6),
+    ("twin", 6),
+];
 
-fn print_row(cells: [String; 11]) {
-    let mut line = format!("| {:<w$} |", cells[0], w = WIDTHS[0]);
-    for (cell, w) in cells.iter().zip(WIDTHS).skip(1) {
+fn print_row(columns: &[Column], cells: &[String]) {
+    let mut line = format!("| {:<w$} |", cells[0], w = columns[0].1);
+    for (cell, (_, w)) in cells.iter().zip(columns).skip(1) {
         line += &format!(" {cell:>w$} |");
     }
     println!("{line}");
 }
 
-fn table(cases: &[Case], counts: Option<Vec<[u64; 2]>>) {
+fn print_heads(columns: &[Column]) {
+    print_row(columns, &columns.iter().map(|c| c.0.to_string()).collect::<Vec<_>>());
+    let line = |(i, c): (usize, &Column)| if i == 0 { "-".repeat(c.1) } else { "-".repeat(c.1 - 1) + ":" };
+    print_row(columns, &columns.iter().enumerate().map(line).collect::<Vec<_>>());
+}
+
+/// The results of a case's first file, and the times for one file in microseconds: of the library, the twin, the HashMap join,
+/// SQLite forced and free, and the limit. All must agree first.
+fn measure(case: &Case) -> (usize, Vec<f64>) {
+    let files = case.files();
+    let mut forced: Vec<Query> = files.iter().map(|f| Query::new(f, Order::Forced)).collect();
+    let mut free: Vec<Query> = files.iter().map(|f| Query::new(f, Order::Free)).collect();
+    let queries = forced.iter_mut().zip(&mut free);
+    let results: Vec<Vec<u32>> = files.iter().zip(queries).map(|(f, (q, r))| check(&case.name(), f, [q, r])).collect();
+    let (mut one, mut two) = (Buffers::new(&files[0]), Buffers::new(&files[0]));
+    let mut output = vec![0; OUTPUT_WORDS];
+    let t = times(&mut [
+        &mut || files.iter().for_each(|f| _ = black_box(library::join(&f.file, &mut one.scratch, &mut one.output))),
+        &mut || files.iter().for_each(|f| _ = black_box(twin::twin_join(&f.file, &mut two.scratch, &mut two.output))),
+        &mut || files.iter().for_each(|f| _ = black_box(hashmap::join(&f.file, &f.plan))),
+        &mut || forced.iter_mut().for_each(|q| _ = black_box(q.run())),
+        &mut || free.iter_mut().for_each(|q| _ = black_box(q.run())),
+        &mut || files.iter().zip(&results).for_each(|(f, v)| _ = black_box(limit(&f.file, v, black_box(&mut output)))),
+    ]);
+    let per_file = |d: &Duration| d.as_secs_f64() * 1e6 / files.len() as f64;
+    (results[0].len() / files[0].width, t.iter().map(per_file).collect())
+}
+
+/// By how much a case grew per doubling of rows, from the case of that shape before it: the library's time, its instructions.
+fn growth(cases: &[Case], times: &[f64], counts: Option<&[[u64; 2]]>, i: usize) -> String {
+    let Some(before) = cases[..i].iter().rposition(|c| c.shape == cases[i].shape) else { return String::new() };
+    let doublings = (cases[i].rows as f64 / cases[before].rows as f64).log2();
+    let per = |x: f64| ratio(x.powf(1.0 / doublings));
+    let more = counts.map_or("-".into(), |c| per(c[i][0] as f64 / c[before][0] as f64));
+    format!("{} {more}", per(times[i] / times[before]))
+}
+
+fn table(cases: &[Case], counts: Option<&[[u64; 2]]>) {
     println!(
         "Times of the others are ratios to the library's. SQLite {}, tables loaded, statement prepared before.",
         sqlite::version()
@@ -220,50 +304,66 @@ fn table(cases: &[Case], counts: Option<Vec<[u64; 2]>>) {
     println!("Limit: each byte of the file read once, each word of the results written once.");
     println!("Growth per doubling of rows, from the file of that shape before it: the library's time, its instructions.");
     println!("Instructions of the library by callgrind, and their ratio to the twin's.\n");
-    print_row(HEADS.map(String::from));
-    print_row(std::array::from_fn(|i| if i == 0 { "-".repeat(WIDTHS[0]) } else { "-".repeat(WIDTHS[i] - 1) + ":" }));
-    let mut before: Option<(usize, f64)> = None;
+    print_heads(&COLUMNS);
+    let mut library_times = Vec::new();
     for (i, case) in cases.iter().enumerate() {
-        let files = case.files();
-        let mut forced: Vec<Query> = files.iter().map(|f| Query::new(f, Order::Forced)).collect();
-        let mut free: Vec<Query> = files.iter().map(|f| Query::new(f, Order::Free)).collect();
-        let queries = forced.iter_mut().zip(&mut free);
-        let results: Vec<Vec<u32>> = files.iter().zip(queries).map(|(f, (q, r))| check(&case.name(), f, [q, r])).collect();
-        let (mut one, mut two) = (Buffers::new(&files[0]), Buffers::new(&files[0]));
-        let mut output = vec![0; OUTPUT_WORDS];
-        let t = times(&mut [
-            &mut || files.iter().for_each(|f| _ = black_box(library::join(&f.file, &mut one.scratch, &mut one.output))),
-            &mut || files.iter().for_each(|f| _ = black_box(twin::twin_join(&f.file, &mut two.scratch, &mut two.output))),
-            &mut || files.iter().for_each(|f| _ = black_box(hashmap::join(&f.file, &f.plan))),
-            &mut || forced.iter_mut().for_each(|q| _ = black_box(q.run())),
-            &mut || free.iter_mut().for_each(|q| _ = black_box(q.run())),
-            &mut || files.iter().zip(&results).for_each(|(f, v)| _ = black_box(limit(&f.file, v, black_box(&mut output)))),
-        ]);
-        let t: Vec<f64> = t.iter().map(|d| d.as_secs_f64() * 1e6 / files.len() as f64).collect();
-        let growth = match before {
-            Some((b, time)) if cases[b].shape == case.shape => {
-                let doublings = (case.rows as f64 / cases[b].rows as f64).log2();
-                let per = |x: f64| ratio(x.powf(1.0 / doublings));
-                let more = counts.as_ref().map_or("-".into(), |c| per(c[i][0] as f64 / c[b][0] as f64));
-                format!("{} {more}", per(t[0] / time))
+        let (results, t) = measure(case);
+        library_times.push(t[0]);
+        let mut cells = vec![case.name(), results.to_string(), format!("{:.1}", t[0])];
+        cells.extend(t[1..5].iter().map(|other| ratio(other / t[0])));
+        cells.push(format!("{:.3}", t[5] / t[0]));
+        cells.push(growth(cases, &library_times, counts, i));
+        cells.push(counts.map_or("-".into(), |c| c[i][0].to_string()));
+        cells.push(counts.map_or("-".into(), |c| ratio(c[i][0] as f64 / c[i][1] as f64)));
+        print_row(&COLUMNS, &cells);
+    }
+}
+
+type Join = fn(&[u8], &mut [u32], &mut [u32]) -> Answer;
+
+/// The times for one file in microseconds, of joins with their files that take turns. Each file has its least time of many turns,
+/// since small differences are asked for.
+fn file_times(contestants: &[(Join, &[Input])]) -> Vec<f64> {
+    let mut b = Buffers::new(&contestants[0].1[0]);
+    let mut least: Vec<Vec<Duration>> = contestants.iter().map(|c| vec![Duration::MAX; c.1.len()]).collect();
+    for _ in 0..100 {
+        for ((join, files), least) in contestants.iter().zip(&mut least) {
+            for (file, least) in files.iter().zip(least) {
+                let start = Instant::now();
+                black_box(join(&file.file, &mut b.scratch, &mut b.output));
+                *least = start.elapsed().min(*least);
             }
-            _ => String::new(),
-        };
-        before = Some((i, t[0]));
-        let own = counts.as_ref().map(|c| c[i]);
-        print_row([
-            case.name(),
-            (results[0].len() / files[0].width).to_string(),
-            format!("{:.1}", t[0]),
-            ratio(t[1] / t[0]),
-            ratio(t[2] / t[0]),
-            ratio(t[3] / t[0]),
-            ratio(t[4] / t[0]),
-            format!("{:.3}", t[5] / t[0]),
-            growth,
-            own.map_or("-".into(), |c| c[0].to_string()),
-            own.map_or("-".into(), |c| ratio(c[0] as f64 / c[1] as f64)),
-        ]);
+        }
+    }
+    least.iter().map(|l| l.iter().sum::<Duration>().as_secs_f64() * 1e6 / l.len() as f64).collect()
+}
+
+/// What mending costs, for cases with their partners. `counts` has the instructions of all cases, then of the partners.
+fn mending_table(cases: &[Case], partners: &[(usize, Case)], counts: Option<&[[u64; 2]]>) {
+    println!("\nMending: what a file takes more than the file with the mended plan in it, which is joined in the same way.");
+    println!("Join is the library's for the latter; the twin's mending stands behind the library's.\n");
+    print_heads(&MENDING_COLUMNS);
+    for (n, (i, partner)) in partners.iter().enumerate() {
+        let (files, mended) = (cases[*i].files(), partner.files());
+        let [library, twin]: [Join; 2] = [library::join, twin::twin_join];
+        let t = file_times(&[(library, &files), (library, &mended), (twin, &files), (twin, &mended)]);
+        let mut cells = vec![cases[*i].name(), format!("{:.1}", t[1]), format!("{:.1}", t[0] - t[1])];
+        cells.extend([format!("{:.3}", (t[0] - t[1]) / t[1]), format!("{:.1}", t[2] - t[3])]);
+        cells.extend(counts.map_or(["-"; 3].map(String::from), |c| mending_counts(c[*i], c[cases.len() + n])));
+        print_row(&MENDING_COLUMNS, &cells);
+    }
+}
+
+/// The library's instructions for mending, their ratio to those of the join, and the twin's.
+fn mending_counts(with: [u64; 2], without: [u64; 2]) -> [String; 3] {
+    let more = |i: usize| with[i] as i64 - without[i] as i64;
+    [more(0).to_string(), format!("{:.3}", more(0) as f64 / without[0] as f64), more(1).to_string()]
+}
+
+fn tables(cases: &[Case], partners: &[(usize, Case)], counts: Option<Vec<[u64; 2]>>) {
+    table(cases, counts.as_deref());
+    if !partners.is_empty() {
+        mending_table(cases, partners, counts.as_deref());
     }
 }
 
@@ -288,10 +388,11 @@ fn main() {
         return;
     }
     cases.retain(|c| c.name().contains(name));
+    let partners: Vec<(usize, Case)> = cases.iter().enumerate().filter_map(|(i, c)| Some((i, c.partner()?))).collect();
     match mode {
         "--check" => check_all(&cases),
-        "--once" => once(&cases),
-        "--quick" => table(&cases, None),
-        _ => table(&cases, instructions(cases.len(), name)),
+        "--once" => cases.iter().chain(partners.iter().map(|p| &p.1)).for_each(once),
+        "--quick" => tables(&cases, &partners, None),
+        _ => tables(&cases, &partners, instructions(cases.len() + partners.len(), name)),
     }
 }

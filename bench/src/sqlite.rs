@@ -43,7 +43,7 @@ pub fn version() -> String {
 
 #[derive(Clone, Copy, PartialEq)]
 pub enum Order {
-    /// CROSS JOIN keeps SQLite to the plan's order of tables.
+    /// CROSS JOIN keeps SQLite to the order of tables of the plan that is followed.
     Forced,
     Free,
 }
@@ -70,7 +70,7 @@ unsafe fn execute(database: *mut Database, sql: &str) {
 }
 
 fn select(input: &Input, order: Order) -> String {
-    let tables = input.plan.order();
+    let tables = input.followed.order();
     let first_with = |a: u32| tables.iter().position(|&t| input.tables[t].attributes.contains(&a));
     let values: Vec<String> = (0..32).filter_map(|a| first_with(a).map(|i| format!("t{}.a{a}", tables[i]))).collect();
     let mut sql = format!("SELECT {} FROM t{}", values.join(", "), tables[0]);

@@ -11,9 +11,11 @@
     result.names                # ('frame', 'exposure', 'reading', 'centikelvin')
     list(result)[0]             # (10, 1, 7, 29510)
     result.columns["frame"]     # array('I', [10, 10, 11, 12])
+    result.plan                 # '(frames (exposures readings))'
 
 Columns with one name, in different tables, are joined. None is a value that was not recorded: it matches nothing, and
-comes back where its column is in one table only. What cannot be joined raises Refused, TypeError or ValueError.
+comes back where its column is in one table only. A plan that is not well-behaved is mended, and result.plan is the
+plan that was followed. What cannot be joined raises Refused, TypeError or ValueError.
 docs/PYTHON.md says more; `python3 -m pigrozd --help` joins CSV files.
 """
 from .answers import MEANINGS, Refused

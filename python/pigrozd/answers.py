@@ -19,7 +19,7 @@ MEANINGS: Dict[int, Meaning] = {
     6: Meaning("something stands behind the plan", "offset of the first byte too many"),
     7: Meaning("the plan's bytes are not a plan", "index in the plan"),
     8: Meaning("the plan does not name each table once", "index in the plan"),
-    9: Meaning("the plan is not well-behaved", "index of an FF in the plan"),
+    9: Meaning("a join has a side where no table holds its join attributes", "index of an FF in the plan"),
     10: Meaning("the scratch is too short", "words needed"),
     11: Meaning("more results than the output fits", "number of results"),
     12: Meaning("two counts of the results differ", "0"),

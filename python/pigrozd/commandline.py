@@ -1,7 +1,7 @@
 """The command line: its arguments, its errors in words, its exit status.
 
-0: joined, or done. 1: refused, or a plan that is not well-behaved. 2: wrong usage, or a file that cannot be read or
-written. 130: interrupted.
+0: joined, or done. 1: refused, also a plan that is drawn. 2: wrong usage, or a file that cannot be read or written.
+130: interrupted.
 """
 import argparse
 import functools
@@ -134,7 +134,9 @@ def add_join(subparsers: Any) -> None:
         "-o", "--output", metavar="OUT", default="-", help="the file to write (without this, or -: standard output)"
     )
     p.add_argument(
-        "--explain", action="store_true", help="draw the plan on standard error, with the work that was done"
+        "--explain",
+        action="store_true",
+        help="draw the plan that the join follows on standard error, with the work that was done",
     )
     add_csv_options(p)
 
@@ -199,8 +201,10 @@ def add_plan(subparsers: Any) -> None:
         subparsers,
         commands.plan,
         "Draws a plan: each join with its key, the tables that are compared and their "
-        "rows, and why it is or is not well-behaved. The status is 1 if it is not. FILE alone: its own plan; with "
-        "--plan another one for its tables. PLAN --tables: a plan for CSV files, or for tables to come.",
+        "rows. A plan that is not well-behaved is drawn as sent, with what is chosen at each join, and as mended, "
+        "which is how the join follows it. The status is 1 if the plan is refused. FILE alone: its own plan; with "
+        "--plan another one for its tables. PLAN --tables: a plan for CSV files, or for tables to come, whose rows "
+        "are not known, so that a mended plan cannot be drawn.",
     )
     p.add_argument("what", metavar="FILE|PLAN", help="a packed file; with --tables a plan, such as '(a (b c))'")
     p.add_argument("--plan", help="draw this plan in place of the file's own")

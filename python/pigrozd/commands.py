@@ -108,7 +108,7 @@ def join_and_write(a: Arguments) -> int:
     file = fileformat.read(data, names)
     drawing = Drawing(file.plan, file.tables, names) if a.explain and file.plan else None
     if drawing:
-        tell("\n".join(drawing.tree()), prefix="")
+        tell("\n".join(drawing.tree(followed_alone=True)), prefix="")
     result = join_bytes(data, names)
     if drawing:
         tell("\n".join([""] + drawing.work(result)), prefix="")
@@ -166,7 +166,7 @@ def program_refuses(file: fileformat.File) -> Optional[str]:
         return str(file.fault)
     if len(file.data) > PROGRAM_BYTES:
         return "the program says 13 to a file of more than 65,536 bytes; pigrozd join takes it"
-    need = plans.words_needed(file.plan, file.tables) if file.plan else 0
+    need = plans.words_needed(file.mended.plan, file.tables) if file.mended else 0
     if need > PROGRAM_WORDS:
         told = "the program says 10, it lends 16,384 words of scratch; pigrozd join takes the file with {:,}"
         return told.format(need)
@@ -201,7 +201,7 @@ def command_to_pack(out: str, file: fileformat.File, names: Names, paths: Sequen
     attributes = csvfiles.csv_line(
         [names.attribute(n) if n in used else "" for n in range(max(used, default=-1) + 1)]
     )
-    plan = plans.to_text(file.plan, names) if file.plan else ""
+    plan = plans.to_text(file.plan, names.table) if file.plan else ""
     options = option("--plan", plan) + option("--attributes", attributes)
     texts = [names.attribute(n) for n in used if n in names.texts]
     if texts:
@@ -289,7 +289,7 @@ def dump(a: Arguments) -> int:
 
 # ---- plan
 def plan(a: Arguments) -> int:
-    """Draws a plan. The status is 1 if it is not well-behaved."""
+    """Draws a plan, and the plan that the join follows in its place. The status is 1 if it is refused."""
     if a.tables and a.plan is not None:
         raise InputError("--plan goes with a FILE, --tables with a PLAN")
     if not a.tables and a.what.startswith("("):
@@ -301,7 +301,7 @@ def plan(a: Arguments) -> int:
             raise
         return refused_file(a.what, refused, a.plan)
     write_out("\n".join(drawing.dot() if a.dot else drawing.tree()) + "\n")
-    return REFUSED if drawing.broken() else DONE
+    return REFUSED if drawing.refused else DONE
 
 
 def drawing_of_file(path: str, text: Optional[str]) -> Drawing:

@@ -1,19 +1,29 @@
-"""A plan drawn: as a text tree, and as Graphviz DOT. And the work of a join beside its bound."""
-from typing import List, Sequence
+"""A plan drawn, as it was sent and as the join follows it: as a text tree, and as Graphviz DOT. And the work of a join
+beside its bound."""
+from typing import Callable, List, Sequence, Tuple
 
-from . import plans
+from . import mending, plans
 from .answers import MEANINGS
 from .messages import count
 from .names import Names
 from .results import Result
 
+Describe = Callable[[plans.Join], List[str]]  # the lines that a join has in a drawing
+Part = Tuple[str, plans.Plan, Describe]  # a plan that is drawn, with its title, which is empty if it is the only one
+
 
 class Drawing:
-    """A plan with the tables that it joins."""
+    """A plan with the tables that it joins. `refused` are the joins with a side that has no holder; `mended` has the
+    plan that the join follows, if there are none and it can be told."""
 
     def __init__(self, plan: plans.Plan, tables: Sequence[plans.Shape], names: Names) -> None:
         self.plan, self.tables, self.names = plan, tables, names
+        self.refused = [join for join in plans.joins_of(plan) if plans.without_holder(join, tables)]
+        self.mended = mending.mend(plan, tables)
+        choices = self.mended.choices if self.mended else ()
+        self.choices = {choice.join.index: choice for choice in choices}
 
+    # ---- words
     def rows(self, table: int) -> str:
         """A table's number of rows, in words."""
         rows = self.tables[table].rows
@@ -24,75 +34,108 @@ class Drawing:
         t = leaf.table
         return [self.names.table(t), self.rows(t), self.names.list(self.tables[t].attributes)]
 
-    def join(self, join: plans.Join) -> List[str]:
-        """A join in words: its key, the two tables that are compared, whether it is well-behaved."""
-        key = self.names.list(plans.key(join, self.tables))
-        leftmost = (plans.tables_of(side)[0] for side in (join.left, join.right))
+    def head(self, join: plans.Join) -> str:
+        """The first line of a join: its key, and the place of its byte."""
+        key = self.names.list(plans.key(join, self.tables)) or "nothing (every pair matches)"
+        return "join on %s, byte %d of the plan" % (key, join.index)
+
+    def behaviour(self, join: plans.Join, both: str) -> str:
+        """Whether a join is well-behaved, and why. `both` are its leftmost tables, in words."""
         lacks = plans.what_lacks(join, self.tables, self.names)
         if lacks:
-            verdict = "NOT well-behaved: " + lacks
-        elif key:
-            verdict = "well-behaved: both have " + key
-        else:
-            verdict = "well-behaved: no attribute is on both sides"
-        return [
-            "join on %s, byte %d of the plan" % (key or "nothing (every pair matches)", join.index),
-            " looked up in ".join("%s (%s)" % (self.names.table(t), self.rows(t)) for t in leftmost),
-            verdict,
-        ]
+            return "NOT well-behaved: " + lacks
+        key = self.names.list(plans.key(join, self.tables))
+        return "well-behaved: " + ("%s have %s" % (both, key) if key else "no attribute is on both sides")
 
-    def broken(self) -> List[plans.Join]:
-        """The joins that are not well-behaved."""
-        return [join for join in plans.joins_of(self.plan) if plans.lacking(join, self.tables)]
+    def followed_join(self, join: plans.Join) -> List[str]:
+        """A join of the plan that is followed: its key, the two tables that are compared, why it is well-behaved."""
+        leftmost = (plans.tables_of(side)[0] for side in (join.left, join.right))
+        looked_up = " looked up in ".join("%s (%s)" % (self.names.table(t), self.rows(t)) for t in leftmost)
+        return [self.head(join), looked_up, self.behaviour(join, "both")]
+
+    def sent_join(self, join: plans.Join) -> List[str]:
+        """A join of a plan that is not followed as it is: its key; why it is refused, or whether it is well-behaved;
+        and what mending chose there."""
+        if plans.without_holder(join, self.tables):
+            return [self.head(join), "REFUSED: " + plans.no_holder(join, self.tables)]
+        both = " and ".join(self.names.table(plans.tables_of(side)[0]) for side in (join.left, join.right))
+        lines = [self.head(join), self.behaviour(join, both)]
+        if join.index in self.choices:
+            lines.append(mending.choice_in_words(self.choices[join.index], self.names))
+        return lines
 
     def verdict(self) -> List[str]:
-        """Whether the plan is well-behaved, what scratch its join needs, what a result is."""
-        broken = self.broken()
-        if broken:
-            return [
-                "answer 9, detail %d: %s at %s" % (broken[0].index, MEANINGS[9].means, count(len(broken), "join"))
-            ]
-        lines = ["the plan is well-behaved"]
-        if all(t.rows is not None for t in self.tables):
-            lines.append("scratch needed: " + count(plans.words_needed(self.plan, self.tables), "word"))
+        """Which plan the join follows, what scratch it needs, what a result is; or why the plan is refused."""
+        if self.refused:
+            such = "%s, at %s" % (MEANINGS[9].means, count(len(self.refused), "join"))
+            return ["answer 9, detail %d: %s" % (self.refused[0].index, such), plans.HINT]
+        if self.mended is None:
+            lines = ["the plan is not well-behaved: it is mended by the tables' rows, which are not all known here"]
+        else:
+            lines = mending.in_words(self.plan, self.mended, self.names)
+            if all(table.rows is not None for table in self.tables):
+                lines.append("scratch needed: " + count(plans.words_needed(self.mended.plan, self.tables), "word"))
         return lines + ["a result: " + self.names.list(plans.width(self.tables))]
 
-    # ---- text
-    def tree(self) -> List[str]:
-        """The lines of a text tree."""
-        lines: List[str] = []
-        self.draw_text(self.plan, "", "", lines)
-        return lines + [""] + self.verdict()
+    # ---- plans
+    def parts(self, followed_alone: bool) -> List[Part]:
+        """What is drawn: the plan as sent and as mended; or the one plan that there is, or is asked for."""
+        if self.mended is None:
+            return [("", self.plan, self.sent_join)]
+        if self.mended.plan == self.plan or followed_alone:
+            return [("", self.mended.plan, self.followed_join)]
+        return [("as sent:", self.plan, self.sent_join), ("as mended:", self.mended.plan, self.followed_join)]
 
-    def draw_text(self, plan: plans.Plan, first: str, others: str, lines: List[str]) -> None:
+    # ---- text
+    def tree(self, followed_alone: bool = False) -> List[str]:
+        """The lines of text trees, of the plan as sent and as mended, or of the plan that is followed alone."""
+        lines: List[str] = []
+        for title, plan, describe in self.parts(followed_alone):
+            if title:
+                lines.append(title)
+            self.draw_text(plan, describe, "", "", lines)
+            lines.append("")
+        return lines + self.verdict()
+
+    def draw_text(self, plan: plans.Plan, describe: Describe, first: str, others: str, lines: List[str]) -> None:
         """Draws a plan. `first` stands before its first line, `others` before all lines below it."""
         if isinstance(plan, plans.Leaf):
             lines.append("%s%s: %s (%s)" % (first, *self.leaf(plan)))
             return
-        head, *below = self.join(plan)
+        head, *below = describe(plan)
         lines.append(first + head)
         lines.extend("%s|     %s" % (others, line) for line in below)
-        self.draw_text(plan.left, others + "|-- ", others + "|   ", lines)
-        self.draw_text(plan.right, others + "`-- ", others + "    ", lines)
+        self.draw_text(plan.left, describe, others + "|-- ", others + "|   ", lines)
+        self.draw_text(plan.right, describe, others + "`-- ", others + "    ", lines)
 
     # ---- DOT
     def dot(self) -> List[str]:
         """The lines of a Graphviz file."""
         lines = ["digraph plan {", "    graph [ordering=out];", "    node [shape=box, fontname=monospace];"]
-        self.draw_dot(self.plan, lines)
+        for letter, (title, plan, describe) in zip("nm", self.parts(followed_alone=False)):
+            if title:
+                lines += ["    subgraph cluster_%s {" % letter, "    label=%s;" % quoted([title])]
+            self.draw_dot(plan, describe, letter, lines)
+            if title:
+                lines.append("    }")
         return lines + ["    label=%s;" % quoted(self.verdict()), "}"]
 
-    def draw_dot(self, plan: plans.Plan, lines: List[str]) -> str:
-        """Draws a plan; the name of its node."""
-        node = "n%d" % plan.index
+    def draw_dot(self, plan: plans.Plan, describe: Describe, letter: str, lines: List[str]) -> str:
+        """Draws a plan; the name of its node, which begins with this letter."""
+        node = "%s%d" % (letter, plan.index)
         if isinstance(plan, plans.Leaf):
             lines.append("    %s [label=%s];" % (node, quoted(self.leaf(plan))))
             return node
-        color = ", color=red, fontcolor=red" if plans.lacking(plan, self.tables) else ""
-        lines.append("    %s [label=%s, style=rounded%s];" % (node, quoted(self.join(plan)), color))
-        for side, child in (("left", plan.left), ("right", plan.right)):
-            lines.append('    %s -> %s [label="%s"];' % (node, self.draw_dot(child, lines), side))
+        lines.append("    %s [label=%s, style=rounded%s];" % (node, quoted(describe(plan)), self.color(plan)))
+        for side, child in plans.named_sides(plan):
+            lines.append('    %s -> %s [label="%s"];' % (node, self.draw_dot(child, describe, letter, lines), side))
         return node
+
+    def color(self, join: plans.Join) -> str:
+        """The color of a join in DOT: red if it is refused, orange if it is not well-behaved."""
+        if plans.without_holder(join, self.tables):
+            return ", color=red, fontcolor=red"
+        return ", color=orange" if plans.lacking(join, self.tables) else ""
 
     # ---- work
     def work(self, result: Result) -> List[str]:
@@ -106,7 +149,8 @@ class Drawing:
             ("visits of tables for results", result.visits),
             ("values written", result.rows * len(result.columns)),
         ]
-        bound, reason = plans.work_bound(self.plan, self.tables, result.rows)
+        followed = self.mended.plan if self.mended else self.plan
+        bound, reason = plans.work_bound(followed, self.tables, result.rows)
         counted.append(("work: entries to values written", sum(number for _, number in counted[2:])))
         counted.append(("bound: (32a + 2) k IN + (k + w) OUT", bound))
         return ["{:36} {:>13,}".format(*line) for line in counted] + ["       = " + reason]

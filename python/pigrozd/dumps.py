@@ -1,7 +1,7 @@
 """The readable dump of a file, bad ones too. A line has an offset, the bytes from there on, and what they are."""
 from typing import Callable, List, Optional, Tuple
 
-from . import fileformat, plans
+from . import fileformat, mending, plans
 from .answers import LAST_OF_PLANS, LAST_OF_RECORDS, MEANINGS
 from .fileformat import File
 from .limits import MOST_ATTRIBUTES, MOST_ROWS, PROGRAM_BYTES
@@ -169,11 +169,13 @@ def byte_in_words(byte: int, join: Optional[plans.Join], file: File, names: Name
     if join is None:
         return "join"
     says = "join on " + (names.list(plans.key(join, file.tables)) or "nothing: every pair matches")
+    if plans.without_holder(join, file.tables):
+        return says + "; " + plans.no_holder(join, file.tables)
     return says + "; not well-behaved" if plans.lacking(join, file.tables) else says
 
 
 def summary(path: str, file: File, names: Names) -> List[str]:
-    """The first lines of a dump: the file, and its answer as far as 9."""
+    """The first lines of a dump: the file, its answer as far as 9, and the plan that a join follows."""
     first = "%s: %s, %s, %s" % (
         path,
         count(len(file.data), "byte"),
@@ -181,18 +183,20 @@ def summary(path: str, file: File, names: Names) -> List[str]:
         count(file.row_count(), "row"),
     )
     if file.plan:
-        first += ", plan " + plans.to_text(file.plan, names)
+        first += ", plan " + plans.to_text(file.plan, names.table)
     lines = [first]
     if file.fault:
         lines.append(str(file.fault))
-    elif file.plan:
+    elif file.plan and file.mended:
         lines.append(
             "within the rules: no answer from 1 to 9 is due; the scratch needed is %s, a result has %s"
             % (
-                count(plans.words_needed(file.plan, file.tables), "word"),
+                count(plans.words_needed(file.mended.plan, file.tables), "word"),
                 count(len(plans.width(file.tables)), "value"),
             )
         )
+        if file.mended.plan != file.plan:
+            lines += mending.in_words(file.plan, file.mended, names)
     if len(file.data) > PROGRAM_BYTES:
         lines.append("the program says 13: it takes files of at most 65,536 bytes")
     return lines
@@ -207,8 +211,8 @@ def doubt(file: File, number: int, detail: int) -> Optional[str]:
         return "this file is refused with %d %d" % (fault.number, fault.detail)
     if not fault and 1 <= number <= LAST_OF_PLANS:
         return "this file is within the rules"
-    if number == 10 and file.plan and detail != plans.words_needed(file.plan, file.tables):
-        return "this file needs %s" % count(plans.words_needed(file.plan, file.tables), "word")
+    if number == 10 and file.mended and detail != plans.words_needed(file.mended.plan, file.tables):
+        return "this file needs %s" % count(plans.words_needed(file.mended.plan, file.tables), "word")
     return None
 
 

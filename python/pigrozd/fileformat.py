@@ -5,7 +5,7 @@ This is the package's one reader and its one writer of the format.
 import struct
 from typing import List, Optional, Sequence, Tuple
 
-from . import plans
+from . import mending, plans
 from .answers import LAST_OF_PLANS, LAST_OF_RECORDS, Refused
 from .limits import ATTRIBUTE_NUMBERS, MOST_ATTRIBUTES, MOST_ROWS, MOST_TABLES
 from .names import Names
@@ -40,7 +40,8 @@ class File:
     """What is in a file's bytes.
 
     `fault` is the first refusal from 1 to 9 that is due, or None. `plan_at` is the offset of a plan record that is
-    whole, `code` has its plan's bytes, and `plan` is its tree if it is spelled right and names each table once."""
+    whole, `code` has its plan's bytes, and `plan` is its tree if it is spelled right and names each table once.
+    `mended` has the plan that a join follows, if no refusal is due."""
 
     def __init__(self, data: bytes) -> None:
         self.data = data
@@ -48,6 +49,7 @@ class File:
         self.plan_at: Optional[int] = None
         self.code = b""
         self.plan: Optional[plans.Plan] = None
+        self.mended: Optional[mending.Mended] = None
         self.fault: Optional[Refused] = None
 
     def values(self, table: Table, place: int) -> List[Optional[int]]:
@@ -80,6 +82,7 @@ def read(data: bytes, names: Optional[Names] = None) -> File:
         file.fault = plans.check(file.code, file.tables, names)
         if file.fault is None or file.fault.number == LAST_OF_PLANS:
             file.plan = plans.from_bytes(file.code)
+            file.mended = mending.mend(file.plan, file.tables)
     return file
 
 

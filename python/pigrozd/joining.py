@@ -24,7 +24,8 @@ def join(tables: GivenTables, plan: Optional[plans.GivenPlan] = None) -> Result:
     tables alike. None, NaN and masked values are not recorded: they match nothing, and come back as None.
 
     plan: a table's name or number, or a pair of plans, such as ("frames", ("exposures", "readings")); or a text, such
-    as "(frames (exposures readings))"; or the plan's bytes, as a file has them. With one table it may be left out.
+    as "(frames (exposures readings))"; or the plan's bytes, as a file has them. With one table it may be left out. A
+    plan that is not well-behaved is mended: the result names the plan that was followed.
     """
     data, names, keys = packed(tables, plan)
     return join_bytes(data, names, keys)
@@ -51,14 +52,13 @@ def join_file(file: Union[str, "os.PathLike[str]", BytesLike]) -> Result:
 
 def packed(tables: GivenTables, plan: Optional[plans.GivenPlan]) -> Tuple[bytes, Names, Dict[int, Key]]:
     """The file of these tables and this plan, its names, and its attributes by number."""
-    records, names, keys = records_of(tables)
+    records, tables_there, names, keys = records_of(tables)
     if plan is None:
-        if len(names.tables) != 1:
-            raise InputError(
-                "a plan is wanted, such as (0, 1) or '(a b)': there are %s" % count(len(names.tables), "table")
-            )
+        if tables_there != 1:
+            there = count(tables_there, "table")
+            raise InputError("a plan is wanted, such as (0, 1) or '(a b)': there are %s" % there)
         plan = 0
-    code = plans.code_of(plan, [names.tables[number] for number in range(len(names.tables))])
+    code = plans.code_of(plan, [names.table(number) for number in range(tables_there)])
     return records + plan_record(code), names, keys
 
 
@@ -73,7 +73,17 @@ def join_bytes(data: bytes, names: Names, keys: Optional[Dict[int, Key]] = None)
     columns: Dict[Key, Values] = {}
     for place, a in enumerate(attributes):
         columns[keys[a] if keys else a] = column_of_words(output[place : end : len(attributes)])
-    return Result(columns, answer.rows, answer.entries, answer.lookups, answer.comparisons, answer.visits)
+    counts = (answer.entries, answer.lookups, answer.comparisons, answer.visits)
+    return Result(columns, answer.rows, *counts, *followed(file, names))
+
+
+def followed(file: File, names: Names) -> Tuple[str, bytes, bool]:
+    """The plan that the join of a file followed, as text and as bytes, and whether it is another one than the file's.
+    Empty if the reader refuses what the library joined, so that it knows no plan."""
+    if not file.mended:
+        return "", b"", False
+    text = plans.to_text(file.mended.plan, names.table_in_plan)
+    return text, file.mended.code, file.mended.code != file.code
 
 
 def refusal(answer: Answer, file: File, names: Names) -> Refused:
@@ -97,7 +107,7 @@ def too_many(results: int, file: File, names: Names) -> str:
         MOST_OUTPUT,
         MOST_OUTPUT // values,
     )
-    for join in plans.joins_of(file.plan) if file.plan else []:
+    for join in plans.joins_of(file.mended.plan) if file.mended else []:
         if not plans.key(join, file.tables):
             why += "; the join of %s is on no attribute, so that every pair matches" % plans.sides_of(join, names)
     return why

@@ -24,12 +24,15 @@ DIGEST_LINE = re.compile(r"^sha256 ([0-9a-f]{64})\r?$", re.MULTILINE)
 
 
 class Names:
-    """The names in a file: of attributes and tables by number, and the texts that values stand for, by attribute."""
+    """The names in a file: of attributes and tables by number, and the texts that values stand for, by attribute.
 
-    def __init__(self) -> None:
+    `unnamed` is what a table without a name is called, with %d for its number."""
+
+    def __init__(self, unnamed: str = "table%d") -> None:
         self.attributes: Dict[int, str] = {}
         self.tables: Dict[int, str] = {}
         self.texts: Dict[int, Dict[int, str]] = {}
+        self.unnamed = unnamed
 
     def attribute(self, number: int) -> str:
         """The attribute's name; a0, a1 and so on without one."""
@@ -37,7 +40,12 @@ class Names:
 
     def table(self, number: int) -> str:
         """The table's name; table0, table1 and so on without one."""
-        return self.tables.get(number) or unused("table%d" % number, self.tables.values())
+        return self.tables.get(number) or unused(self.unnamed % number, self.tables.values())
+
+    def table_in_plan(self, number: int) -> str:
+        """What the text of a plan calls the table: its name, or its number if it has none that can stand there."""
+        name = self.tables.get(number, '"')
+        return str(number) if '"' in name else name
 
     def list(self, attributes: Iterable[int]) -> str:
         """The names of these attributes in one text."""

@@ -6,7 +6,7 @@ may also be given by its number, and a name with blanks or brackets stands in do
 import operator
 import re
 from dataclasses import dataclass
-from typing import Any, Dict, Iterator, List, NamedTuple, Optional, Sequence, Tuple, Union
+from typing import Any, Callable, Dict, Iterator, List, NamedTuple, Optional, Sequence, Tuple, Union
 
 from .answers import Refused
 from .limits import MOST_PLAN_BYTES, MOST_TABLES
@@ -14,6 +14,7 @@ from .names import Names
 from .messages import InputError, listed, shortened
 
 JOIN = 255  # the byte of a join; a left plan and a right plan follow
+HINT = "name tables that share attributes next to each other"  # what to do about answer 9
 
 
 @dataclass(frozen=True)
@@ -182,11 +183,11 @@ def misplaced(text: str, place: int, what: str) -> InputError:
     return InputError("plan %s: at character %d: %s" % (shortened(text), place + 1, what))
 
 
-def to_text(plan: Plan, names: Names) -> str:
-    """The text of a plan."""
+def to_text(plan: Plan, called: Callable[[int], str]) -> str:
+    """The text of a plan, in which each table is called as `called` says."""
     if isinstance(plan, Join):
-        return "(%s %s)" % (to_text(plan.left, names), to_text(plan.right, names))
-    name = names.table(plan.table)
+        return "(%s %s)" % (to_text(plan.left, called), to_text(plan.right, called))
+    name = called(plan.table)
     return '"%s"' % name if re.search(r"[\s()]", name) else name
 
 
@@ -197,8 +198,8 @@ def check(code: bytes, tables: Sequence[Shape], names: Names) -> Optional[Refuse
         if found:
             return Refused(number, *found)
     for join in joins_of(from_bytes(code)):
-        if lacking(join, tables):
-            return Refused(9, join.index, why_broken(join, tables, names))
+        if without_holder(join, tables):
+            return Refused(9, join.index, why_refused(join, tables, names))
     return None
 
 
@@ -236,20 +237,64 @@ def numbered(tables: int) -> str:
     return ("0 to %d" % (tables - 1)) if tables > 1 else "0 alone" if tables else "from 0, but there are none"
 
 
+# ---- joins
+def named_sides(join: Join) -> List[Tuple[str, Plan]]:
+    """The two sides of a join, each with its name."""
+    return [("left", join.left), ("right", join.right)]
+
+
+def sides_of(join: Join, names: Names) -> str:
+    """The tables on both sides of a join, in words."""
+    left, right = (listed([names.table(t) for t in tables_of(side)]) for side in (join.left, join.right))
+    return "%s with %s" % (left, right)
+
+
 def key(join: Join, tables: Sequence[Shape]) -> List[int]:
     """The join attributes: those found both in some table on the left and in some table on the right."""
     left, right = ({a for t in tables_of(side) for a in tables[t].attributes} for side in (join.left, join.right))
     return sorted(left & right)
 
 
+def has_all(table: Shape, attributes: Sequence[int]) -> bool:
+    """Whether a table has all of these attributes."""
+    return set(attributes) <= set(table.attributes)
+
+
+def holders(side: Plan, attributes: Sequence[int], tables: Sequence[Shape]) -> List[int]:
+    """The tables of a side of a join that have all of these attributes, in its order."""
+    return [t for t in tables_of(side) if has_all(tables[t], attributes)]
+
+
+def without_holder(join: Join, tables: Sequence[Shape]) -> List[str]:
+    """The sides of a join where no table has all its join attributes."""
+    attributes = key(join, tables)
+    return [name for name, side in named_sides(join) if not holders(side, attributes, tables)]
+
+
+def no_holder(join: Join, tables: Sequence[Shape]) -> str:
+    """On which sides no table has all join attributes, in words."""
+    return "no table on the %s has them all" % " and none on the ".join(without_holder(join, tables))
+
+
+def why_refused(join: Join, tables: Sequence[Shape], names: Names) -> str:
+    """Why a plan is refused at a join where a side has no holder, and what to do, in words."""
+    return "the join of %s, byte %d of the plan, is on %s, but %s; %s" % (
+        sides_of(join, names),
+        join.index,
+        listed([names.attribute(a) for a in key(join, tables)]),
+        no_holder(join, tables),
+        HINT,
+    )
+
+
 def lacking(join: Join, tables: Sequence[Shape]) -> List[Tuple[str, int, List[int]]]:
-    """What breaks the rule at this join: a side, its leftmost table, the join attributes which that table lacks."""
+    """What is not well-behaved at a join: a side, its leftmost table, the join attributes that this table lacks."""
     found = []
-    for side, plan in (("left", join.left), ("right", join.right)):
-        leftmost = tables_of(plan)[0]
+    for name, side in named_sides(join):
+        leftmost = tables_of(side)[0]
         lacks = [a for a in key(join, tables) if a not in tables[leftmost].attributes]
         if lacks:
-            found.append((side, leftmost, lacks))
+            found.append((name, leftmost, lacks))
     return found
 
 
@@ -262,21 +307,6 @@ def what_lacks(join: Join, tables: Sequence[Shape], names: Names) -> str:
     )
 
 
-def sides_of(join: Join, names: Names) -> str:
-    """The tables on both sides of a join, in words."""
-    left, right = (listed([names.table(t) for t in tables_of(side)]) for side in (join.left, join.right))
-    return "%s with %s" % (left, right)
-
-
-def why_broken(join: Join, tables: Sequence[Shape], names: Names) -> str:
-    """Why a join is not well-behaved, in words."""
-    return "the join of %s is on %s, but %s" % (
-        sides_of(join, names),
-        listed([names.attribute(a) for a in key(join, tables)]),
-        what_lacks(join, tables, names),
-    )
-
-
 # ---- figures
 def width(tables: Sequence[Shape]) -> List[int]:
     """The attributes of a result, rising."""
@@ -284,13 +314,13 @@ def width(tables: Sequence[Shape]) -> List[int]:
 
 
 def words_needed(plan: Plan, tables: Sequence[Shape]) -> int:
-    """The words of scratch that the join of this plan needs. The rows of the tables are known."""
+    """The words of scratch that a join by this plan, which is well-behaved, needs. The tables' rows are known."""
     rows = [table.rows or 0 for table in tables]
     return 8 * sum(rows) + sum(rows[tables_of(join.left)[0]] for join in joins_of(plan))
 
 
 def work_bound(plan: Plan, tables: Sequence[Shape], out: int) -> Tuple[int, str]:
-    """The bound of demand 3 on the work of a join with so many results, and how it comes about."""
+    """The bound of demand 3 on the work of a join by this plan with so many results, and how it comes about."""
     a = max((len(key(join, tables)) for join in joins_of(plan)), default=0)
     k, rows, w = len(tables), sum(table.rows or 0 for table in tables), len(width(tables))
     bound = (32 * a + 2) * k * rows + (k + w) * out

@@ -23,7 +23,10 @@ class Result:
     """A join's result: its columns by attribute (name or number, as the tables were given), how many rows it has, and
     the four counts of the work done. Going through it gives its rows, each a tuple in the order of `names`.
 
-    A column is an array.array of 32-bit words; if a value was not recorded it is a list, with None for the value."""
+    A column is an array.array of 32-bit words; if a value was not recorded it is a list, with None for the value.
+
+    `plan` is the text of the plan that the join followed, `plan_bytes` has its bytes, and `mended` says whether it is
+    another one than was given. The order of the rows is that of this plan."""
 
     columns: Dict[Key, Values]
     rows: int
@@ -31,6 +34,9 @@ class Result:
     lookups: int
     comparisons: int
     visits: int
+    plan: str
+    plan_bytes: bytes
+    mended: bool
 
     @property
     def names(self) -> Tuple[Key, ...]:

@@ -23,24 +23,27 @@ class Given(NamedTuple):
 
 
 class Records(NamedTuple):
-    """Table records, how their tables and attributes are called, and the attributes' names or numbers by number."""
+    """Table records, how many there are, how their tables and attributes are called, and the attributes' names or
+    numbers by number."""
 
     data: bytes
+    count: int
     names: Names
     keys: Dict[int, Key]
 
 
 def records_of(tables: GivenTables) -> Records:
     """The records of the tables given."""
-    names = Names()
+    names = Names(unnamed="table %d")
     given: List[Given] = []
     for number, (name, table) in enumerate(named_tables(tables)):
-        names.tables[number] = name or "table %d" % number
+        if name:
+            names.tables[number] = name
         called = "table %s" % name if name else "table %d" % number
         given.append(Given(called, columns_of(table, called)))
     keys = keys_of(given)
     names.attributes = {number: attribute_in_words(key) for number, key in keys.items()}
-    return Records(b"".join(record_of(table, keys) for table in given), names, keys)
+    return Records(b"".join(record_of(table, keys) for table in given), len(given), names, keys)
 
 
 def named_tables(tables: GivenTables) -> List[Tuple[str, Any]]:

@@ -1,44 +1,34 @@
--- Answers 7 to 10, one after the other, for the tables of a catalog.
-use Prim.Native.Nat.{ℕ, zero, suc, _+_, _*_, _<_, _≤_, _^_}
+-- Answers 7 and 8, one after the other, for the tables of a catalog, and whether the plan is well-behaved.
+use Prim.Native.Nat.{ℕ, zero, suc, _<_, _≤_, _^_}
 use mathlib.Core.Path.{_≡_, refl, sym, ap, _∙_}
-use mathlib.Core.Bool.{true, false}
+use mathlib.Core.Bool.{Bool, true, false}
 use mathlib.Core.List.{List, [], _∷_, map}
 use mathlib.Core.Option.{Option, none, some}
 use native.Mathlib.Omega.{arith}
 use lib.ListN.{length, getD, List·getD-map}
-use lib.Dec.{ltb}
-use borrow.Author.Tests.{lt-ltb, le-ltb}
 use Rattle.semantics.specs.Lists.{Each}
 use Rattle.semantics.specs.Files.{Table, hasBit}
-use Rattle.semantics.specs.Plans.{Plan, tables, leftmost, misplaced, planOf, misnamed}
-use Rattle.semantics.specs.Shapes.{Shape, noTable, shapeOf, illBehaved, rowsIn, leftRows, scratchNeed}
-use Rattle.semantics.specs.Outcome.{Verdict, refused, admitted, planVerdict, scratchVerdict, WithinRules}
-use Rattle.semantics.proofs.Rules.{tables-count, rows-count, plan-within}
+use Rattle.semantics.specs.Plans.{Plan, misplaced, planOf, misnamed}
+use Rattle.semantics.specs.Shapes.{Shape, noTable, shapeOf}
+use Rattle.semantics.specs.Outcome.{refused, planVerdict}
+use Rattle.semantics.proofs.Cases.{cases, option-cases}
 use Rattle.words.specs.Arrays.{padded}
 use Rattle.words.proofs.Arrays.{padded-at}
 use Rattle.tables.specs.declared.Catalog.{Catalog}
 use Rattle.tables.specs.Catalogs.{catalogOf}
-use Rattle.plans.specs.declared.spelling.Found.{Found}
-use Rattle.plans.specs.declared.spelling.Found.the-variants as found
-use Rattle.plans.specs.Places.{PlanAt, Planned}
-use Rattle.plans.specs.Spelling.{foundOf}
-use Rattle.plans.specs.Judging.{Masked}
-use Rattle.plans.specs.Schedules.{storage, scheduleOf, Plannable}
-use Rattle.plans.specs.Admissions.{Tabled, Catalogued, verdictOf}
-use Rattle.plans.proofs.Places.{spelled-stands}
-use Rattle.plans.proofs.Whole.{storage-need}
+use Rattle.mending.specs.declared.lacking.Found.{Found}
+use Rattle.mending.specs.declared.lacking.Found.the-variants as found
+use Rattle.mending.specs.Places.{PlanAt, Planned}
+use Rattle.mending.specs.Lacking.{foundOf}
+use Rattle.mending.proofs.Lacks.{found-none, found-at}
+use Rattle.plans.specs.declared.admission.Check.the-variants as check
+use Rattle.plans.specs.Judging.{wellBehaved, Masked}
+use Rattle.plans.specs.Admissions.{Tabled, Catalogued, checkOf, Named}
+use Rattle.mending.proofs.Places.{spelled-stands}
 
 -- ---- what was found
-pub found-at : (o : Option ℕ) (i : ℕ) → foundOf o ≡ found.At i → o ≡ some i
-found-at none i e = let z : _≡_ {A = ℕ} 0 1 = cc in absurd (omega arith)
-found-at (some j) i e = ap some (let q : j ≡ i = cc in q)
-
-pub found-nothing : (o : Option ℕ) → foundOf o ≡ found.Nothing → o ≡ none
-found-nothing none e = refl
-found-nothing (some j) e = let z : _≡_ {A = ℕ} 0 1 = cc in absurd (omega arith)
-
 -- ---- the arrays of a catalog
-each-at : (P : Table → Type 0) (ts : List Table) → Each P ts → P noTable → (i : ℕ) → P (getD ts i noTable)
+pub each-at : (P : Table → Type 0) (ts : List Table) → Each P ts → P noTable → (i : ℕ) → P (getD ts i noTable)
 each-at P [] e d i = d
 each-at P (t ∷ ts) e d zero = e .0
 each-at P (t ∷ ts) e d (suc i) = each-at P ts (e .1) d i
@@ -62,27 +52,7 @@ module _ (ts : List Table) where
   pub rows-few : Each (λ t. t .rows ≤ 4096) ts → (t : ℕ) → t < 16 → getD (padded (map (λ t. t .rows) ts)) t 0 ≤ 4096
   rows-few h t lt = omega (arith, rows-at t, each-at (λ t. t .rows ≤ 4096) ts h (omega arith) t)
 
-  -- ---- 7, 8 and 9
-  module _ (code : List ℕ) where
-    pub refused-7 : (i : ℕ) → misplaced 1 0 code ≡ some i → planVerdict ts code ≡ refused 7 i
-    unfolding planVerdict
-    refused-7 i a = rw (a, planVerdict)
-
-    module _ (a : misplaced 1 0 code ≡ none) where
-      pub refused-8 : (i : ℕ) → misnamed (length ts) [] 0 code ≡ some i → planVerdict ts code ≡ refused 8 i
-      unfolding planVerdict
-      refused-8 i b = rw (a, b, planVerdict)
-
-      module _ (b : misnamed (length ts) [] 0 code ≡ none) where
-        pub refused-9 : (i : ℕ) → illBehaved (shapeOf ts) (planOf code) 0 ≡ some i → planVerdict ts code ≡ refused 9 i
-        unfolding planVerdict
-        refused-9 i c = rw (a, b, c, planVerdict)
-
-        pub taken : illBehaved (shapeOf ts) (planOf code) 0 ≡ none → planVerdict ts code ≡ admitted ts (planOf code)
-        unfolding planVerdict
-        taken c = rw (a, b, c, planVerdict)
-
--- ---- by what the three checks found
+-- ---- by what the checks found
 pub count-is : (c : Catalog) (ts : List Table) → Tabled c ts → c .count ≡ length ts
 unfolding catalogOf
 count-is c ts h = ap (λ x. x .count) (h .is)
@@ -99,12 +69,13 @@ pub count-few : (c : Catalog) → Catalogued c → c .count ≤ 16
 count-few c q = omega (arith, count-is c (q .ts) (q .tabled), q .tabled .few)
 
 module _ (c : Catalog) (code : List ℕ) (f : Found) (seven : f ≡ foundOf (misplaced 1 0 code)) where
-  pub answer-7 : (i : ℕ) → f ≡ found.At i → (ts : List Table) → Tabled c ts → verdictOf (refused 7 i) ≡ verdictOf (planVerdict ts code)
-  answer-7 i e ts h = sym (ap verdictOf (refused-7 ts code i (found-at (misplaced 1 0 code) i (sym seven ∙ e))))
+  pub answer-7 : (i : ℕ) → f ≡ found.At i → (ts : List Table) → Tabled c ts → check.Refused 7 i ≡ checkOf ts code
+  unfolding checkOf
+  answer-7 i e ts h = sym (rw (found-at (misplaced 1 0 code) i (sym seven ∙ e), checkOf) refl)
 
   module _ (spells : f ≡ found.Nothing) where
     none-7 : misplaced 1 0 code ≡ none
-    none-7 = found-nothing (misplaced 1 0 code) (sym seven ∙ spells)
+    none-7 = found-none (misplaced 1 0 code) (sym seven ∙ spells)
 
     pub spelled-plan : Planned code 0
     spelled-plan = record { plan = planOf code; end = length code; stands = spelled-stands code none-7 }
@@ -113,18 +84,62 @@ module _ (c : Catalog) (code : List ℕ) (f : Found) (seven : f ≡ foundOf (mis
       eight-of : (ts : List Table) → Tabled c ts → g ≡ foundOf (misnamed (length ts) [] 0 code)
       eight-of ts h = eight ∙ ap (λ n. foundOf (misnamed n [] 0 code)) (count-is c ts h)
 
-      pub answer-8 : (i : ℕ) → g ≡ found.At i → (ts : List Table) → Tabled c ts → verdictOf (refused 8 i) ≡ verdictOf (planVerdict ts code)
-      answer-8 i e ts h = sym (ap verdictOf (refused-8 ts code none-7 i (found-at (misnamed (length ts) [] 0 code) i (sym (eight-of ts h) ∙ e))))
+      pub answer-8 : (i : ℕ) → g ≡ found.At i → (ts : List Table) → Tabled c ts → check.Refused 8 i ≡ checkOf ts code
+      unfolding checkOf
+      answer-8 i e ts h = sym (rw (none-7, found-at (misnamed (length ts) [] 0 code) i (sym (eight-of ts h) ∙ e), checkOf) refl)
 
-      module _ (names : g ≡ found.Nothing) (k : Found) (nine : (S : Shape) → Masked (c .masks) S → (p : Plan) → PlanAt code 0 p (length code) → k ≡ foundOf (illBehaved S p 0)) where
+      module _ (names : g ≡ found.Nothing) (b : Bool) (judged : (S : Shape) → Masked (c .masks) S → (p : Plan) → PlanAt code 0 p (length code) → b ≡ wellBehaved S p) where
         none-8 : (ts : List Table) → Tabled c ts → misnamed (length ts) [] 0 code ≡ none
-        none-8 ts h = found-nothing (misnamed (length ts) [] 0 code) (sym (eight-of ts h) ∙ names)
+        none-8 ts h = found-none (misnamed (length ts) [] 0 code) (sym (eight-of ts h) ∙ names)
 
-        nine-of : (ts : List Table) → Tabled c ts → k ≡ foundOf (illBehaved (shapeOf ts) (planOf code) 0)
-        nine-of ts h = nine (shapeOf ts) (rw (masks-are c ts h) (masked ts (h .masks))) (planOf code) (spelled-stands code none-7)
+        tested : (ts : List Table) → Tabled c ts → b ≡ wellBehaved (shapeOf ts) (planOf code)
+        tested ts h = judged (shapeOf ts) (rw (masks-are c ts h) (masked ts (h .masks))) (planOf code) (spelled-stands code none-7)
 
-        pub answer-9 : (i : ℕ) → k ≡ found.At i → (ts : List Table) → Tabled c ts → verdictOf (refused 9 i) ≡ verdictOf (planVerdict ts code)
-        answer-9 i e ts h = sym (ap verdictOf (refused-9 ts code none-7 (none-8 ts h) i (found-at (illBehaved (shapeOf ts) (planOf code) 0) i (sym (nine-of ts h) ∙ e))))
+        pub is-behaved : b ≡ true → (ts : List Table) → Tabled c ts → check.Behaved ≡ checkOf ts code
+        unfolding checkOf
+        is-behaved e ts h = sym (rw (none-7, none-8 ts h, sym (tested ts h) ∙ e, checkOf) refl)
 
-        pub answer-none : k ≡ found.Nothing → (ts : List Table) → Tabled c ts → verdictOf (admitted ts (planOf code)) ≡ verdictOf (planVerdict ts code)
-        answer-none e ts h = sym (ap verdictOf (taken ts code none-7 (none-8 ts h) (found-nothing (illBehaved (shapeOf ts) (planOf code) 0) (sym (nine-of ts h) ∙ e))))
+        pub is-not-behaved : b ≡ false → (ts : List Table) → Tabled c ts → check.IllBehaved ≡ checkOf ts code
+        unfolding checkOf
+        is-not-behaved e ts h = sym (rw (none-7, none-8 ts h, sym (tested ts h) ∙ e, checkOf) refl)
+
+-- ---- what a check tells
+pub record Passed (ts : List Table) (code : List ℕ) (b : Bool) : Type 0 where
+  pub named : Named code ts
+  pub tested : wellBehaved (shapeOf ts) (planOf code) ≡ b
+
+check-cases : {P : Type 0} (ts : List Table) (code : List ℕ)
+    → ((n i : ℕ) → checkOf ts code ≡ check.Refused n i → planVerdict ts code ≡ refused n i → P)
+    → (checkOf ts code ≡ check.Behaved → Passed ts code true → P)
+    → (checkOf ts code ≡ check.IllBehaved → Passed ts code false → P)
+    → P
+unfolding checkOf planVerdict
+check-cases ts code a b d =
+    option-cases (misplaced 1 0 code)
+    (λ x. option-cases (misnamed (length ts) [] 0 code)
+    (λ y. cases (wellBehaved (shapeOf ts) (planOf code))
+    (λ z. b (rw (x, y, z, checkOf) refl) (record { named = record { spelled = x; named = y }; tested = z }))
+    (λ z. d (rw (x, y, z, checkOf) refl) (record { named = record { spelled = x; named = y }; tested = z })))
+    (λ i y. a 8 i (rw (x, y, checkOf) refl) (rw (x, y, planVerdict) refl)))
+    (λ i x. a 7 i (rw (x, checkOf) refl) (rw (x, planVerdict) refl))
+
+pub check-refused : (ts : List Table) (code : List ℕ) (n d : ℕ) → check.Refused n d ≡ checkOf ts code → planVerdict ts code ≡ refused n d
+check-refused ts code n d e =
+    check-cases ts code
+    (λ m i q v. let y : check.Refused n d ≡ check.Refused m i = e ∙ q in let z : refused m i ≡ refused n d = cc in v ∙ z)
+    (λ q p. let y : check.Refused n d ≡ check.Behaved = e ∙ q in let z : _≡_ {A = ℕ} 0 1 = cc in absurd (omega arith))
+    (λ q p. let y : check.Refused n d ≡ check.IllBehaved = e ∙ q in let z : _≡_ {A = ℕ} 0 1 = cc in absurd (omega arith))
+
+pub check-behaved : (ts : List Table) (code : List ℕ) → check.Behaved ≡ checkOf ts code → Passed ts code true
+check-behaved ts code e =
+    check-cases ts code
+    (λ m i q v. let y : check.Behaved ≡ check.Refused m i = e ∙ q in let z : _≡_ {A = ℕ} 0 1 = cc in absurd (omega arith))
+    (λ q p. p)
+    (λ q p. let y : check.Behaved ≡ check.IllBehaved = e ∙ q in let z : _≡_ {A = ℕ} 0 1 = cc in absurd (omega arith))
+
+pub check-ill : (ts : List Table) (code : List ℕ) → check.IllBehaved ≡ checkOf ts code → Passed ts code false
+check-ill ts code e =
+    check-cases ts code
+    (λ m i q v. let y : check.IllBehaved ≡ check.Refused m i = e ∙ q in let z : _≡_ {A = ℕ} 0 1 = cc in absurd (omega arith))
+    (λ q p. let y : check.IllBehaved ≡ check.Behaved = e ∙ q in let z : _≡_ {A = ℕ} 0 1 = cc in absurd (omega arith))
+    (λ q p. p)

@@ -1,6 +1,5 @@
 pub mod Reading
 pub mod Names
-pub mod Places
 pub mod Judging
 pub mod Lent
 pub mod Growing
@@ -8,6 +7,7 @@ pub mod Scheduling
 pub mod Whole
 pub mod Admitting
 pub mod Scratch
+pub mod Sending
 pub mod Verdicts
 pub mod Segments
 pub mod ByNumber

@@ -13,8 +13,8 @@ use borrow.Author.Tests.{eq-eqb, ne-eqb, eqb-true, eqb-false, lt-ltb, le-ltb}
 use Rattle.semantics.specs.Lists.{any}
 use Rattle.semantics.specs.Plans.{misnamed}
 use Rattle.semantics.proofs.Cases.{cases}
-use Rattle.plans.specs.declared.spelling.Found.{Found}
-use Rattle.plans.specs.Spelling.{foundOf}
+use Rattle.mending.specs.declared.lacking.Found.{Found}
+use Rattle.mending.specs.Lacking.{foundOf}
 use Rattle.plans.specs.Names.{Named}
 
 pub begun : (n : ℕ) (code : List ℕ) → Named n code (replicate 16 false) 0 0

@@ -13,7 +13,8 @@ use borrow.Author.Tests.{eq-eqb, ne-eqb, lt-ltb, le-ltb}
 use Rattle.semantics.specs.Plans.{misplaced}
 use Rattle.plans.specs.declared.spelling.PlanEnd.{PlanEnd}
 use Rattle.plans.specs.declared.spelling.PlanEnd.the-variants as end
-use Rattle.plans.specs.Spelling.{foundOf, continued, PlanRead}
+use Rattle.mending.specs.Lacking.{foundOf}
+use Rattle.plans.specs.Spelling.{continued, PlanRead}
 
 -- a refusal has no end
 bad-end : {P : Type 0} (i m : ℕ) → end.Bad i ≡ end.End m → P

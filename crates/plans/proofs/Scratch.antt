@@ -1,38 +1,49 @@
 -- Answer 10, and the schedule that an admitted plan gets.
 use Prim.Native.Nat.{ℕ, _+_, _*_, _<_, _≤_}
 use mathlib.Core.Path.{_≡_, refl, sym, ap, ap₂, _∙_}
-use mathlib.Core.List.{List, [], map}
+use mathlib.Core.Bool.{true}
+use mathlib.Core.List.{List, map}
 use native.Mathlib.Omega.{arith}
 use lib.ListN.{length, getD, List·getD-append}
 use borrow.Author.Tests.{lt-ltb, le-ltb}
 use Rattle.semantics.specs.Files.{Table}
-use Rattle.semantics.specs.Plans.{Plan, scan, join, tables, leftmost, misplaced, planOf, misnamed}
-use Rattle.semantics.specs.Shapes.{noTable, shapeOf, illBehaved, scratchNeed}
-use Rattle.semantics.specs.Outcome.{admitted, planVerdict, scratchVerdict, WithinRules}
-use Rattle.semantics.proofs.Cases.{option-cases}
-use Rattle.semantics.proofs.Rules.{verdict-cases, tables-count, rows-count, plan-within}
+use Rattle.semantics.specs.Plans.{Plan, scan, join, tables, leftmost, planOf}
+use Rattle.semantics.specs.Shapes.{noTable, shapeOf, scratchNeed}
+use Rattle.semantics.specs.Outcome.{refused, admitted, planVerdict, scratchVerdict, WithinRules}
+use Rattle.semantics.proofs.Mending.{mend-same}
+use Rattle.semantics.proofs.Mendable.{mendable-unmendable, wellBehaved-mendable}
+use Rattle.semantics.proofs.Rules.{tables-count, rows-count, plan-within}
 use Rattle.words.specs.Arrays.{padded}
 use Rattle.words.proofs.Arrays.{padded-at}
 use Rattle.tables.specs.declared.Catalog.{Catalog}
 use Rattle.plans.specs.declared.schedule.Schedule.{Schedule}
-use Rattle.plans.specs.declared.admission.Verdict.{Verdict as Decision}
 use Rattle.plans.specs.declared.admission.Verdict.the-variants as decision
-use Rattle.plans.specs.Places.{PlanAt}
+use Rattle.plans.specs.declared.admission.Check.{Check}
+use Rattle.plans.specs.declared.admission.Check.the-variants as check
+use Rattle.plans.specs.declared.admission.Admission.{Admission}
+use Rattle.mending.specs.Places.{PlanAt}
 use Rattle.plans.specs.Schedules.{storage, scheduleWith, scheduleOf, noSchedule, Plannable}
-use Rattle.plans.specs.Admissions.{Tabled, Catalogued, Admits, Accepted, verdictOf, planAdmission}
-use Rattle.plans.proofs.Places.{spelled-stands}
+use Rattle.plans.specs.Admissions.{Tabled, Catalogued, checkOf, Named, Mendables, Follows, Accepted, admissionBy, followedAdmission, planAdmission}
+use Rattle.mending.proofs.Places.{spelled-stands}
 use Rattle.plans.proofs.Scheduling.{tables-some}
 use Rattle.plans.proofs.Whole.{leftmost-small, joins-tables, storage-le, storage-need}
-use Rattle.plans.proofs.Admitting.{masks-are, rows-are, rows-at, rows-few}
+use Rattle.plans.proofs.Judging.{tested-behaved}
+use Rattle.plans.proofs.Admitting.{masks-are, rows-are, rows-at, rows-few, Passed, check-refused, check-behaved, check-ill}
+
+-- a refusal of the plan record
+pub refused-admission : (c : Catalog) (ts : List Table) (code : List ℕ) (n d words : ℕ) → Tabled c ts → planVerdict ts code ≡ refused n d → (free : Schedule) → free ≡ noSchedule
+    → record { verdict = decision.Refused n d; catalog = c; schedule = free } ≡ planAdmission ts code words
+unfolding planAdmission scratchVerdict
+refused-admission c ts code n d words h v free f = rw (v, scratchVerdict) (λ i. record { verdict = decision.Refused n d; catalog = h .is i; schedule = f i })
 
 -- the first table in plan order is the leftmost one
 pub first-table : (p : Plan) → getD (tables p) 0 0 ≡ leftmost p
 first-table (scan t) = refl
 first-table (join l r) = List·getD-append (tables l) (tables r) 0 0 (tables-some l) ∙ first-table l
 
-module _ (c : Catalog) (code : List ℕ) (ts : List Table) (h : Tabled c ts) (a : Admits code ts) where
+module _ (c : Catalog) (code : List ℕ) (ts : List Table) (h : Tabled c ts) (a : Follows code ts) where
   within : WithinRules ts (planOf code)
-  within = (plan-within ts ts code (planOf code) (a .verdict)) .1
+  within = a .within
 
   few : length (tables (planOf code)) ≤ 16
   few = omega (arith, tables-count ts (planOf code) within, h .few)
@@ -73,46 +84,48 @@ module _ (c : Catalog) (code : List ℕ) (ts : List Table) (h : Tabled c ts) (a 
         omega (arith, first-rows, used-is, storage-need (shapeOf ts) (c .rows) same (planOf code) (within .small), rows-count ts (planOf code) within)
 
     module _ (words need : ℕ) (counted : need ≡ s .used + 8 * getD (c .rows) (getD (s .order) 0 0) 0) where
-      pub scratch-short : words < need → (free : Schedule) → free ≡ noSchedule → record { verdict = decision.Refused 10 need; catalog = c; schedule = free } ≡ planAdmission ts code words
-      unfolding planAdmission scratchVerdict
+      pub scratch-short : words < need → (free : Schedule) → free ≡ noSchedule → record { verdict = decision.Refused 10 need; catalog = c; schedule = free } ≡ followedAdmission ts (planOf code) words
+      unfolding followedAdmission scratchVerdict
       scratch-short lt free e =
           let n : need ≡ scratchNeed ts (planOf code) = counted ∙ need-is in
-          rw (a .verdict, lt-ltb words (scratchNeed ts (planOf code)) (omega arith), scratchVerdict)
+          rw (lt-ltb words (scratchNeed ts (planOf code)) (omega arith), scratchVerdict)
           (λ i. record { verdict = decision.Refused 10 (n i); catalog = h .is i; schedule = e i })
 
-      pub scratch-enough : need ≤ words → record { verdict = decision.Admitted; catalog = c; schedule = s } ≡ planAdmission ts code words
-      unfolding planAdmission scratchVerdict
+      pub scratch-enough : need ≤ words → record { verdict = decision.Admitted; catalog = c; schedule = s } ≡ followedAdmission ts (planOf code) words
+      unfolding followedAdmission scratchVerdict
       scratch-enough le =
           let n : need ≡ scratchNeed ts (planOf code) = counted ∙ need-is in
           let q : s ≡ scheduleOf (padded (map (λ t. t .mask) ts)) (padded (map (λ t. t .rows) ts)) (planOf code) = schedule-is ∙ ap₂ (λ x y. scheduleOf x y (planOf code)) (masks-are c ts h) (rows-are c ts h) in
-          rw (a .verdict, le-ltb words (scratchNeed ts (planOf code)) (omega arith), scratchVerdict)
+          rw (le-ltb words (scratchNeed ts (planOf code)) (omega arith), scratchVerdict)
           (λ i. record { verdict = decision.Admitted; catalog = h .is i; schedule = q i })
 
--- ---- what the verdict on the plan tells
-admits-of : (ts : List Table) (code : List ℕ) → verdictOf (planVerdict ts code) ≡ decision.Admitted → Admits code ts
+-- ---- what the check of the plan tells
+-- a well-behaved plan is followed as it is
+behaved-follows : (ts : List Table) (code : List ℕ) → Passed ts code true → Follows code ts × (planVerdict ts code ≡ admitted ts (planOf code))
 unfolding planVerdict
-admits-of ts code e =
-    option-cases (misplaced 1 0 code)
-    (λ x. option-cases (misnamed (length ts) [] 0 code)
-    (λ y. option-cases (illBehaved (shapeOf ts) (planOf code) 0)
-    (λ z. record { spelled = x; verdict = rw (x, y, z, planVerdict) })
-    (λ i z. let q : decision.Refused 9 i ≡ decision.Admitted = rw (x, y, z, planVerdict) at e in let w : _≡_ {A = ℕ} 0 1 = cc in absurd (omega arith)))
-    (λ i y. let q : decision.Refused 8 i ≡ decision.Admitted = rw (x, y, planVerdict) at e in let w : _≡_ {A = ℕ} 0 1 = cc in absurd (omega arith)))
-    (λ i x. let q : decision.Refused 7 i ≡ decision.Admitted = rw (x, planVerdict) at e in let w : _≡_ {A = ℕ} 0 1 = cc in absurd (omega arith))
+behaved-follows ts code p =
+    let w = tested-behaved (shapeOf ts) (planOf code) (p .tested) in
+    let n = mendable-unmendable (shapeOf ts) (planOf code) 0 (wellBehaved-mendable (shapeOf ts) (planOf code) w) in
+    let v : planVerdict ts code ≡ admitted ts (planOf code) = rw (p .named .spelled, p .named .named, n, planVerdict) (ap (admitted ts) (mend-same (shapeOf ts) (planOf code) w)) in
+    (record { spelled = p .named .spelled; within = (plan-within ts ts code (planOf code) v) .1 }, v)
 
-module _ (c : Catalog) (code : List ℕ) (v : Decision) (judged : (ts : List Table) → Tabled c ts → v ≡ verdictOf (planVerdict ts code)) where
-  pub admits : v ≡ decision.Admitted → (ts : List Table) → Tabled c ts → Admits code ts
-  admits e ts h = admits-of ts code (sym (judged ts h) ∙ e)
+module _ (c : Catalog) (code : List ℕ) (r : Check) (checked : (ts : List Table) → Tabled c ts → r ≡ checkOf ts code) where
+  pub follows : r ≡ check.Behaved → (ts : List Table) → Tabled c ts → Follows code ts
+  follows e ts h = (behaved-follows ts code (check-behaved ts code (sym e ∙ checked ts h))) .0
 
-  pub accepted : v ≡ decision.Admitted → Catalogued c → Accepted code c
-  accepted e q = record { ts = q .ts; tabled = q .tabled; admits = admits e (q .ts) (q .tabled) }
+  pub accepted : r ≡ check.Behaved → Catalogued c → Accepted code c
+  accepted e q = record { ts = q .ts; tabled = q .tabled; follows = follows e (q .ts) (q .tabled) }
 
-  pub plan-refused : (n d words : ℕ) → v ≡ decision.Refused n d → (free : Schedule) → free ≡ noSchedule → (ts : List Table) → Tabled c ts
+  pub as-sent : r ≡ check.Behaved → (ts : List Table) → Tabled c ts → (words : ℕ) (a : Admission) → a ≡ followedAdmission ts (planOf code) words → a ≡ planAdmission ts code words
+  unfolding followedAdmission planAdmission
+  as-sent e ts h words a q = q ∙ ap (λ v. admissionBy ts (scratchVerdict words v)) (sym ((behaved-follows ts code (check-behaved ts code (sym e ∙ checked ts h))) .1))
+
+  pub named : r ≡ check.IllBehaved → (ts : List Table) → Tabled c ts → Named code ts
+  named e ts h = (check-ill ts code (sym e ∙ checked ts h)) .named
+
+  pub mendables : r ≡ check.IllBehaved → Catalogued c → Mendables code c
+  mendables e q = record { ts = q .ts; tabled = q .tabled; named = named e (q .ts) (q .tabled) }
+
+  pub plan-refused : (n d words : ℕ) → r ≡ check.Refused n d → (free : Schedule) → free ≡ noSchedule → (ts : List Table) → Tabled c ts
       → record { verdict = decision.Refused n d; catalog = c; schedule = free } ≡ planAdmission ts code words
-  unfolding planAdmission scratchVerdict
-  plan-refused n d words e free f ts h =
-      verdict-cases (planVerdict ts code)
-      (λ m k g.
-      let q : decision.Refused n d ≡ decision.Refused m k = sym e ∙ judged ts h ∙ ap verdictOf g in
-      rw (g, scratchVerdict) (λ i. record { verdict = q i; catalog = h .is i; schedule = f i }))
-      (λ us p g. let q : decision.Refused n d ≡ decision.Admitted = sym e ∙ judged ts h ∙ ap verdictOf g in let w : _≡_ {A = ℕ} 0 1 = cc in absurd (omega arith))
+  plan-refused n d words e free f ts h = refused-admission c ts code n d words h (check-refused ts code n d (sym e ∙ checked ts h)) free f

@@ -1,21 +1,26 @@
 -- What admission gives for what `semantics` decides.
 use mathlib.Core.Path.{_≡_}
-use mathlib.Core.List.{List, map}
-use mathlib.Core.Option.{none}
+use mathlib.Core.Bool.{true, false}
+use mathlib.Core.List.{List, [], map}
+use mathlib.Core.Option.{none, some}
 use Prim.Native.Nat.{ℕ, _<_, _≤_, _^_}
 use lib.ListN.{length}
 use Rattle.semantics.specs.Lists.{Each}
 use Rattle.semantics.specs.Files.{Table, read}
-use Rattle.semantics.specs.Plans.{Plan, misplaced, planOf}
-use Rattle.semantics.specs.Outcome.{Verdict, refused, admitted, planVerdict, scratchVerdict, verdict}
+use Rattle.semantics.specs.Plans.{Plan, misplaced, planOf, misnamed}
+use Rattle.semantics.specs.Shapes.{shapeOf}
+use Rattle.semantics.specs.Outcome.{Verdict, refused, admitted, planVerdict, scratchVerdict, verdict, WithinRules}
 use Rattle.words.specs.Arrays.{padded}
 use Rattle.tables.specs.declared.Catalog.{Catalog}
 use Rattle.tables.specs.Catalogs.{catalogOf}
 use Rattle.plans.specs.declared.schedule.Schedule.{Schedule}
 use Rattle.plans.specs.declared.admission.Verdict.{Verdict as Decision}
 use Rattle.plans.specs.declared.admission.Verdict.the-variants as decision
+use Rattle.plans.specs.declared.admission.Check.{Check}
+use Rattle.plans.specs.declared.admission.Check.the-variants as check
 use Rattle.plans.specs.declared.admission.Ruling.{Ruling}
 use Rattle.plans.specs.declared.admission.Admission.{Admission}
+use Rattle.plans.specs.Judging.{wellBehaved}
 use Rattle.plans.specs.Schedules.{scheduleIn, noSchedule, scheduleOf}
 
 -- the catalog holds these tables, as a file within the rules has them
@@ -29,15 +34,37 @@ pub record Catalogued (c : Catalog) : Type 0 where
   pub ts : List Table
   pub tabled : Tabled c ts
 
--- 7, 8 and 9 are not due for the plan's bytes and these tables
-pub record Admits (code : List ℕ) (ts : List Table) : Type 0 where
+-- what answers 7 and 8 leave, and whether the plan is well-behaved
+unfoldable pub checkOf : List Table → List ℕ → Check
+checkOf ts code =
+    elim (misplaced 1 0 code) [
+      | some i ↦ check.Refused 7 i
+      | none ↦
+          elim (misnamed (length ts) [] 0 code) [
+            | some i ↦ check.Refused 8 i
+            | none ↦ elim (wellBehaved (shapeOf ts) (planOf code)) [ true ↦ check.Behaved | false ↦ check.IllBehaved ]
+          ]
+    ]
+
+-- 7 and 8 are not due for the plan's bytes and these tables
+pub record Named (code : List ℕ) (ts : List Table) : Type 0 where
   pub spelled : misplaced 1 0 code ≡ none
-  pub verdict : planVerdict ts code ≡ admitted ts (planOf code)
+  pub named : misnamed (length ts) [] 0 code ≡ none
+
+pub record Mendables (code : List ℕ) (c : Catalog) : Type 0 where
+  pub ts : List Table
+  pub tabled : Tabled c ts
+  pub named : Named code ts
+
+-- the bytes are those of a plan that the join can follow with these tables
+pub record Follows (code : List ℕ) (ts : List Table) : Type 0 where
+  pub spelled : misplaced 1 0 code ≡ none
+  pub within : WithinRules ts (planOf code)
 
 pub record Accepted (code : List ℕ) (c : Catalog) : Type 0 where
   pub ts : List Table
   pub tabled : Tabled c ts
-  pub admits : Admits code ts
+  pub follows : Follows code ts
 
 abbrev pub verdictOf : Verdict → Decision
 verdictOf (refused n d) = decision.Refused n d
@@ -56,10 +83,28 @@ refusalOf n d = record { verdict = decision.Refused n d; counts = record { joins
 abbrev pub admissionIn : Ruling → Catalog → List ℕ → List (List ℕ) → Admission
 admissionIn r c keys lists = record { verdict = r .verdict; catalog = c; schedule = scheduleIn (r .counts) keys lists }
 
+-- the admission of a verdict on these tables
+abbrev pub admissionBy : List Table → Verdict → Admission
+admissionBy ts v = record { verdict = verdictOf v; catalog = catalogOf ts; schedule = scheduleFor v }
+
+-- answer 10 for a plan that the join follows and a scratch of that many words
+unfoldable pub followedAdmission : List Table → Plan → ℕ → Admission
+followedAdmission ts p words = admissionBy ts (scratchVerdict words (admitted ts p))
+
 -- the answers 7 to 10 for the plan's bytes, the tables of a file and a scratch of that many words
 unfoldable pub planAdmission : List Table → List ℕ → ℕ → Admission
-planAdmission ts code words =
-    record { verdict = verdictOf (scratchVerdict words (planVerdict ts code)); catalog = catalogOf ts; schedule = scheduleFor (scratchVerdict words (planVerdict ts code)) }
+planAdmission ts code words = admissionBy ts (scratchVerdict words (planVerdict ts code))
+
+-- a ruling, with the schedule that stands in these lists, is: that of the plan that the bytes spell, where the join can follow it; of
+-- the plan record, where 7 and 8 are not due; of the plan record
+abbrev pub FollowedBy : Catalog → List ℕ → ℕ → Ruling → List ℕ → List (List ℕ) → Type 0
+FollowedBy c code words r keys lists = (ts : List Table) → Tabled c ts → Follows code ts → admissionIn r c keys lists ≡ followedAdmission ts (planOf code) words
+
+abbrev pub MendedBy : Catalog → List ℕ → ℕ → Ruling → List ℕ → List (List ℕ) → Type 0
+MendedBy c code words r keys lists = (ts : List Table) → Tabled c ts → Named code ts → admissionIn r c keys lists ≡ planAdmission ts code words
+
+abbrev pub RuledBy : Catalog → List ℕ → ℕ → Ruling → List ℕ → List (List ℕ) → Type 0
+RuledBy c code words r keys lists = (ts : List Table) → Tabled c ts → admissionIn r c keys lists ≡ planAdmission ts code words
 
 -- the answers 1 to 10, or the catalog and the schedule
 unfoldable pub admissionOf : List ℕ → ℕ → Admission

@@ -1,5 +1,4 @@
 pub mod Spelling
-pub mod Places
 pub mod Names
 pub mod Judging
 pub mod Schedules

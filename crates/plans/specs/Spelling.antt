@@ -1,18 +1,12 @@
 -- What the plan reader promises.
 use mathlib.Core.Path.{_≡_}
 use mathlib.Core.List.{List}
-use mathlib.Core.Option.{Option, none, some}
+use mathlib.Core.Option.{Option, some}
 use Prim.Native.Nat.{ℕ, suc, _≤_, _<_}
 use lib.ListN.{length, drop}
 use Rattle.semantics.specs.Plans.{misplaced}
-use Rattle.plans.specs.declared.spelling.Found.{Found}
-use Rattle.plans.specs.declared.spelling.Found.the-variants as found
 use Rattle.plans.specs.declared.spelling.PlanEnd.{PlanEnd}
 use Rattle.plans.specs.declared.spelling.PlanEnd.the-variants as end
-
-abbrev pub foundOf : Option ℕ → Found
-foundOf none = found.Nothing
-foundOf (some i) = found.At i
 
 -- the rest of the spelling check, when that many further plans are owed behind the one read
 abbrev pub continued : List ℕ → ℕ → PlanEnd → Option ℕ

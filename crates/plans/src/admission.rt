@@ -4,11 +4,11 @@ ghost use mathlib.Core.Path.{_≡_};
 ghost use mathlib.Core.List.{List};
 ghost use Prim.Native.Nat.{ℕ, _+_, _<_, _≤_};
 ghost use Rattle.semantics.specs.Files.{Table};
-ghost use Rattle.semantics.specs.Outcome.{planVerdict, scratchVerdict};
-ghost use Rattle.plans.specs.Admissions.{Tabled, Catalogued, Admits, Accepted, verdictOf, refusalOf, admissionIn, planAdmission, admissionOf};
+ghost use Rattle.plans.specs.Admissions.{Tabled, Catalogued, checkOf, Mendables, Accepted, refusalOf, admissionIn, admissionOf};
+ghost use Rattle.plans.specs.Admissions.{FollowedBy, MendedBy, RuledBy};
 ghost use Rattle.plans.specs.Schedules.{Blank};
 ghost use Rattle.tables.specs.Catalogs.{contentsOf};
-use crate::behaviour::first_ill_behaved;
+use crate::behaviour::is_well_behaved;
 use crate::naming::first_misnamed;
 use crate::schedule::Counts;
 use crate::schedule::ORDER;
@@ -16,8 +16,8 @@ use crate::schedule::Schedule;
 use crate::schedule::schedule_in;
 use crate::schedule::schedule_of;
 use crate::schedule::words_needed;
-use crate::spelling::Found;
 use crate::spelling::first_misplaced;
+use mending::Found;
 use tables::Catalog;
 use tables::Contents;
 use tables::End;
@@ -26,6 +26,13 @@ use tables::End;
 pub enum Verdict {
     Refused(u32, usize),
     Admitted,
+}
+
+// What answers 7 and 8 leave: refused with a number and its detail, or a plan that is well-behaved or not.
+pub enum Check {
+    Refused(u32, usize),
+    Behaved,
+    IllBehaved,
 }
 
 // The verdict; the tables read before it; and, where the file is admitted, the schedule of its plan.
@@ -55,29 +62,30 @@ fn refusal(number: u32, detail: usize) -> Ruling
     }
 }
 
-// Answers 7, 8 and 9, in this order, for the plan's bytes and the tables of a file.
-fn plan_verdict(code: &[u8], catalog: Catalog) -> Verdict
+// Answers 7 and 8, in this order, for the plan's bytes and the tables of a file; else whether the plan is well-behaved.
+fn check_plan(code: &[u8], catalog: Catalog) -> Check
     requires { ⌜ Catalogued catalog ⌝ }
-    ensures { λ r. ⌜ ((ts : List Table) → Tabled catalog ts → r ≡ verdictOf (planVerdict ts (now (code .entry)))) ⌝ }
+    ensures { λ r. ⌜ ((ts : List Table) → Tabled catalog ts → r ≡ checkOf ts (now (code .entry))) ⌝ }
 {
     let spelling = first_misplaced(code);
     if let Found::At(i) = spelling {
-        return Verdict::Refused(7, i);
+        return Check::Refused(7, i);
     }
     let count = catalog.count;
     let naming = first_misnamed(code, count);
     if let Found::At(i) = naming {
-        return Verdict::Refused(8, i);
+        return Check::Refused(8, i);
     }
     let masks = catalog.masks;
-    let behaviour = first_ill_behaved(code, &masks);
-    if let Found::At(i) = behaviour {
-        return Verdict::Refused(9, i);
+    if is_well_behaved(code, &masks) {
+        Check::Behaved
+    } else {
+        Check::IllBehaved
     }
-    Verdict::Admitted
 }
 
-// The schedule of an admitted plan, or 10 where the scratch has too few words. The keys and lists are 0 before, and after 10.
+// The schedule of the plan that the join follows, or 10 where the scratch has too few words. The keys and lists are 0 before, and after
+// 10.
 fn with_scratch(
     code: &[u8],
     catalog: Catalog,
@@ -86,7 +94,7 @@ fn with_scratch(
     lists: &mut [[usize; 16]; 8],
 ) -> Ruling
     requires { ⌜ Accepted (now code) catalog × Blank (now keys) (now lists) ⌝ }
-    ensures { λ r. ⌜ ((ts : List Table) → Tabled catalog ts → Admits (now (code .entry)) ts → admissionIn r catalog (now (keys .exit)) (now (lists .exit)) ≡ planAdmission ts (now (code .entry)) words) ⌝ }
+    ensures { λ r. ⌜ FollowedBy catalog (now (code .entry)) words r (now (keys .exit)) (now (lists .exit)) ⌝ }
 {
     let masks = catalog.masks;
     let rows = catalog.rows;
@@ -103,6 +111,28 @@ fn with_scratch(
     }
 }
 
+// Answers 9 and 10 for a plan that is not well-behaved: it is mended, and the mended one is followed.
+fn with_mended(
+    code: &[u8],
+    catalog: Catalog,
+    words: usize,
+    keys: &mut [u32; 16],
+    lists: &mut [[usize; 16]; 8],
+) -> Ruling
+    requires { ⌜ Mendables (now code) catalog × Blank (now keys) (now lists) ⌝ }
+    ensures { λ r. ⌜ MendedBy catalog (now (code .entry)) words r (now (keys .exit)) (now (lists .exit)) ⌝ }
+{
+    let masks = catalog.masks;
+    let rows = catalog.rows;
+    let n = code.len();
+    let mut mended = [0u8; 31];
+    let lacking = mending::mend(code, &masks, &rows, &mut mended);
+    match lacking {
+        Found::At(i) => refusal(9, i),
+        Found::Nothing => with_scratch(&mended[..n], catalog, words, keys, lists),
+    }
+}
+
 // Answers 7 to 10 for the plan's bytes and the tables of a file.
 fn admit_plan(
     code: &[u8],
@@ -112,12 +142,13 @@ fn admit_plan(
     lists: &mut [[usize; 16]; 8],
 ) -> Ruling
     requires { ⌜ Catalogued catalog × Blank (now keys) (now lists) ⌝ }
-    ensures { λ r. ⌜ ((ts : List Table) → Tabled catalog ts → admissionIn r catalog (now (keys .exit)) (now (lists .exit)) ≡ planAdmission ts (now (code .entry)) words) ⌝ }
+    ensures { λ r. ⌜ RuledBy catalog (now (code .entry)) words r (now (keys .exit)) (now (lists .exit)) ⌝ }
 {
-    let verdict = plan_verdict(code, catalog);
-    match verdict {
-        Verdict::Refused(n, d) => refusal(n, d),
-        Verdict::Admitted => with_scratch(code, catalog, words, keys, lists),
+    let check = check_plan(code, catalog);
+    match check {
+        Check::Refused(n, d) => refusal(n, d),
+        Check::Behaved => with_scratch(code, catalog, words, keys, lists),
+        Check::IllBehaved => with_mended(code, catalog, words, keys, lists),
     }
 }
 

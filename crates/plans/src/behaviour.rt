@@ -1,52 +1,36 @@
-// Answer 9: at every join the two leftmost tables have all join attributes.
+// Well-behaved plans: at every join the two leftmost tables have all join attributes. Such a plan need not be mended.
 ghost use mathlib.Core.Path.{_≡_};
 ghost use Prim.Native.Nat.{ℕ, _+_, _<_, _≤_};
 ghost use lib.ListN.{length};
 ghost use Rattle.semantics.specs.Plans.{Plan};
-ghost use Rattle.semantics.specs.Shapes.{Shape, illBehaved};
-ghost use Rattle.plans.specs.Places.{PlanAt, Planned};
-ghost use Rattle.plans.specs.Spelling.{foundOf};
-ghost use Rattle.plans.specs.Judging.{earlier, brokenOf, Masked, Judged};
-use crate::spelling::Found;
+ghost use Rattle.semantics.specs.Shapes.{Shape};
+ghost use Rattle.mending.specs.Places.{PlanAt, Planned};
+ghost use Rattle.plans.specs.Judging.{behavesBy, wellBehaved, Masked, Judged};
 
-// A plan inside the plan: the attributes of its tables, its leftmost table, the index behind it, and the first FF in it
-// whose join breaks the rule.
+// A plan inside the plan: the attributes of its tables, its leftmost table, the index behind it, and whether it is well-behaved.
 pub struct Subplan {
     pub attributes: u32,
     pub leftmost: usize,
     pub next: usize,
-    pub broken: Found,
+    pub behaved: bool,
 }
 
-// The first of two indices, where there is one.
-fn or_else(first: Found, second: Found) -> Found
-    ensures { λ r. ⌜ r ≡ earlier first second ⌝ }
-{
-    match first {
-        Found::At(i) => Found::At(i),
-        Found::Nothing => second,
-    }
-}
-
-// The first FF of the join at an index that breaks the rule: its own where the leftmost tables, with these masks, do not
-// have all join attributes.
-fn broken_at(at: usize, left: Subplan, right: Subplan, left_mask: u32, right_mask: u32) -> Found
-    ensures { λ r. ⌜ r ≡ brokenOf at (left .attributes) (right .attributes) «left_mask» «right_mask» (left .broken) (right .broken) ⌝ }
+// Whether the join of two plans, whose leftmost tables have these masks, is well-behaved with all inside it.
+fn behaves(left: Subplan, right: Subplan, left_mask: u32, right_mask: u32) -> bool
+    ensures { λ r. ⌜ r ≡ behavesBy left right «left_mask» «right_mask» ⌝ }
 {
     let shared = left.attributes & right.attributes;
     if shared & (left_mask & right_mask) == shared {
-        let first = left.broken;
-        let second = right.broken;
-        or_else(first, second)
+        if left.behaved { right.behaved } else { false }
     } else {
-        Found::At(at)
+        false
     }
 }
 
 // The plan that begins at an index, for tables with these masks. The bytes spell a plan: only a table number or an FF stands there.
 fn judge(code: &[u8], masks: &[u32; 16], at: usize) -> Subplan
     requires { ⌜ Planned (now code) at ⌝ }
-    ensures { λ r. ⌜ ((p : Plan) (e : ℕ) → PlanAt (now (code .entry)) at p e → Judged (now (masks .entry)) p at e r) ⌝ }
+    ensures { λ r. ⌜ ((p : Plan) (e : ℕ) → PlanAt (now (code .entry)) at p e → Judged (now (masks .entry)) p e r) ⌝ }
 {
     let b = code[at];
     match b {
@@ -56,7 +40,7 @@ fn judge(code: &[u8], masks: &[u32; 16], at: usize) -> Subplan
                 attributes: masks[t],
                 leftmost: t,
                 next: at + 1,
-                broken: Found::Nothing,
+                behaved: true,
             }
         }
         255 => {
@@ -65,28 +49,28 @@ fn judge(code: &[u8], masks: &[u32; 16], at: usize) -> Subplan
             let right = judge(code, masks, middle);
             let l = left.leftmost;
             let r = right.leftmost;
-            let broken = broken_at(at, left, right, masks[l], masks[r]);
+            let behaved = behaves(left, right, masks[l], masks[r]);
             Subplan {
                 attributes: left.attributes | right.attributes,
                 leftmost: l,
                 next: right.next,
-                broken,
+                behaved,
             }
         }
         _ => Subplan {
             attributes: 0,
             leftmost: 0,
             next: at,
-            broken: Found::Nothing,
+            behaved: false,
         },
     }
 }
 
-// The first FF whose join breaks the rule, in bytes that spell a plan.
-pub(crate) fn first_ill_behaved(code: &[u8], masks: &[u32; 16]) -> Found
+// Whether the plan that the bytes spell is well-behaved.
+pub(crate) fn is_well_behaved(code: &[u8], masks: &[u32; 16]) -> bool
     requires { ⌜ Planned (now code) 0 ⌝ }
-    ensures { λ r. ⌜ ((S : Shape) → Masked (now (masks .entry)) S → (p : Plan) → PlanAt (now (code .entry)) 0 p (length (now (code .entry))) → r ≡ foundOf (illBehaved S p 0)) ⌝ }
+    ensures { λ r. ⌜ ((S : Shape) → Masked (now (masks .entry)) S → (p : Plan) → PlanAt (now (code .entry)) 0 p (length (now (code .entry))) → r ≡ wellBehaved S p) ⌝ }
 {
     let whole = judge(code, masks, 0);
-    whole.broken
+    whole.behaved
 }

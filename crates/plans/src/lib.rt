@@ -1,5 +1,5 @@
-// The plan of a file: whether its bytes spell one plan (7), name each table once (8), and keep the rule of well-behaved plans
-// (9); the schedule that the join follows; and whether the file and the scratch are taken (1 to 10).
+// The plan of a file: whether its bytes spell one plan (7) and name each table once (8); the plan that the join follows, which is
+// itself where it is well-behaved and else the mended one (9); its schedule; and whether the file and the scratch are taken (1 to 10).
 mod admission;
 mod behaviour;
 mod naming;

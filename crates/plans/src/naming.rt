@@ -3,8 +3,8 @@ ghost use mathlib.Core.Path.{_≡_};
 ghost use mathlib.Core.List.{[]};
 ghost use Prim.Native.Nat.{ℕ, _+_, _<_, _≤_};
 ghost use Rattle.semantics.specs.Plans.{misnamed};
-ghost use Rattle.plans.specs.Spelling.{foundOf};
-use crate::spelling::Found;
+ghost use Rattle.mending.specs.Lacking.{foundOf};
+use mending::Found;
 
 // The first byte that names a table that is absent, of that many, or already named; the end where a table is not named.
 pub(crate) fn first_misnamed(code: &[u8], tables: usize) -> Found

@@ -3,13 +3,9 @@ ghost use mathlib.Core.Path.{_≡_};
 ghost use Prim.Native.Nat.{ℕ, suc, _+_, _<_, _≤_};
 ghost use mathlib.Core.List.{[]};
 ghost use Rattle.semantics.specs.Plans.{misplaced};
-ghost use Rattle.plans.specs.Spelling.{foundOf, PlanRead};
-
-// The index of a byte, where there is one.
-pub enum Found {
-    At(usize),
-    Nothing,
-}
+ghost use Rattle.mending.specs.Lacking.{foundOf};
+ghost use Rattle.plans.specs.Spelling.{PlanRead};
+use mending::Found;
 
 // Where a plan ends, or the first byte that cannot stand there.
 pub enum PlanEnd {

@@ -13,8 +13,11 @@ pub mod Steps
 pub mod Bound
 pub mod Spelling
 pub mod Misplaced
-pub mod WellBehaved
-pub mod Broken
+pub mod JoinTrees
+pub mod Mending
+pub mod Mendable
+pub mod Topmost
+pub mod Lacking
 pub mod Naming
 pub mod Misnamed
 pub mod Choices
@@ -26,4 +29,5 @@ pub mod Output
 pub mod Answers
 pub mod Samples
 pub mod Bags
+pub mod MendedBags
 pub mod FileBags

@@ -8,15 +8,16 @@ use native.Mathlib.Omega.{arith}
 use lib.ListN.{length}
 use Rattle.semantics.specs.Files.{Table, fault, planBytes, read}
 use Rattle.semantics.specs.Plans.{Plan, encode, tables, Small, misplaced, planOf, misnamed}
-use Rattle.semantics.specs.Shapes.{shapeOf, WellBehaved, illBehaved}
-use Rattle.semantics.specs.Details.{SpellsPlan, FirstMisplaced, NamedOnce, FirstMisnamed, FirstBroken, ReadsPlan}
+use Rattle.semantics.specs.Shapes.{shapeOf}
+use Rattle.semantics.specs.Mending.{mend, Mendable, unmendable}
+use Rattle.semantics.specs.Details.{SpellsPlan, FirstMisplaced, NamedOnce, FirstMisnamed, FirstLacking, ReadsPlan}
 use Rattle.semantics.specs.Outcome.{Verdict, refused, admitted, planVerdict, readVerdict, rulesVerdict}
 use Rattle.semantics.proofs.Cases.{option-cases}
 use Rattle.semantics.proofs.Reading.{ending-cases, fault-number}
 use Rattle.semantics.proofs.Spelling.{planOf-encode, spelled-out}
 use Rattle.semantics.proofs.Misplaced.{spelled-exactly, first-misplaced}
 use Rattle.semantics.proofs.Misnamed.{plan-named-exactly, first-misnamed}
-use Rattle.semantics.proofs.Broken.{behaved-exactly, first-broken}
+use Rattle.semantics.proofs.Lacking.{mendable-exactly, first-lacking}
 
 -- two refusals at once
 clash : {P : Type 0} {v : Verdict} {n d m c : ℕ} → v ≡ refused n d → v ≡ refused m c → (n ≡ m → ⊥) → P
@@ -31,23 +32,23 @@ module _ (ts : List Table) (code : List ℕ) where
   unfolding planVerdict
   eight h g = rw (h, g, planVerdict)
 
-  nine : {i : ℕ} → misplaced 1 0 code ≡ none → misnamed (length ts) [] 0 code ≡ none → illBehaved (shapeOf ts) (planOf code) 0 ≡ some i → planVerdict ts code ≡ refused 9 i
+  nine : {i : ℕ} → misplaced 1 0 code ≡ none → misnamed (length ts) [] 0 code ≡ none → unmendable (shapeOf ts) (planOf code) 0 ≡ some i → planVerdict ts code ≡ refused 9 i
   unfolding planVerdict
   nine h g f = rw (h, g, f, planVerdict)
 
-  within : misplaced 1 0 code ≡ none → misnamed (length ts) [] 0 code ≡ none → illBehaved (shapeOf ts) (planOf code) 0 ≡ none → planVerdict ts code ≡ admitted ts (planOf code)
+  within : misplaced 1 0 code ≡ none → misnamed (length ts) [] 0 code ≡ none → unmendable (shapeOf ts) (planOf code) 0 ≡ none → planVerdict ts code ≡ admitted ts (mend (shapeOf ts) (planOf code))
   unfolding planVerdict
   within h g f = rw (h, g, f, planVerdict)
 
   judged : {P : Type 0}
       → ((i : ℕ) → misplaced 1 0 code ≡ some i → P)
       → ((i : ℕ) → misplaced 1 0 code ≡ none → misnamed (length ts) [] 0 code ≡ some i → P)
-      → ((i : ℕ) → misplaced 1 0 code ≡ none → misnamed (length ts) [] 0 code ≡ none → illBehaved (shapeOf ts) (planOf code) 0 ≡ some i → P)
-      → (misplaced 1 0 code ≡ none → misnamed (length ts) [] 0 code ≡ none → illBehaved (shapeOf ts) (planOf code) 0 ≡ none → P)
+      → ((i : ℕ) → misplaced 1 0 code ≡ none → misnamed (length ts) [] 0 code ≡ none → unmendable (shapeOf ts) (planOf code) 0 ≡ some i → P)
+      → (misplaced 1 0 code ≡ none → misnamed (length ts) [] 0 code ≡ none → unmendable (shapeOf ts) (planOf code) 0 ≡ none → P)
       → P
   judged a b c d =
       option-cases (misplaced 1 0 code)
-      (λ h. option-cases (misnamed (length ts) [] 0 code) (λ g. option-cases (illBehaved (shapeOf ts) (planOf code) 0) (λ f. d h g f) (λ i f. c i h g f)) (λ i g. b i h g))
+      (λ h. option-cases (misnamed (length ts) [] 0 code) (λ g. option-cases (unmendable (shapeOf ts) (planOf code) 0) (λ f. d h g f) (λ i f. c i h g f)) (λ i g. b i h g))
       a
 
   spelled-plan : (s : SpellsPlan code) → planOf code ≡ s .plan
@@ -70,34 +71,34 @@ module _ (ts : List Table) (code : List ℕ) where
     λ f. eight ((spelled-exactly code) .1 (f .0)) ((first-misnamed (length ts) code i) .1 (f .1)),
   )
 
-  -- 9: they spell a plan that names each table once, and the first FF whose join breaks the rule is at i
-  pub nine-exactly : (i : ℕ) → (planVerdict ts code ≡ refused 9 i) ↔ ((s : SpellsPlan code) × NamedOnce (length ts) (tables (s .plan)) × FirstBroken (shapeOf ts) (s .plan) i)
+  -- 9: they spell a plan that names each table once, and the first FF whose join has a side without a holder is at i
+  pub nine-exactly : (i : ℕ) → (planVerdict ts code ≡ refused 9 i) ↔ ((s : SpellsPlan code) × NamedOnce (length ts) (tables (s .plan)) × FirstLacking (shapeOf ts) (s .plan) i)
   nine-exactly i = (
     λ e. judged (λ k h. clash (seven h) e (λ z. omega arith)) (λ k h g. clash (eight h g) e (λ z. omega arith))
         (λ k h g f.
         let z : k ≡ i = cc (nine h g f, e) in
         let s = (spelled-exactly code) .0 h in
-        (s, rw (← spelled-plan s) ((plan-named-exactly (length ts) code h) .0 g), rw (← spelled-plan s) ((first-broken (shapeOf ts) (planOf code) i) .0 (f ∙ ap some z))))
+        (s, rw (← spelled-plan s) ((plan-named-exactly (length ts) code h) .0 g), rw (← spelled-plan s) ((first-lacking (shapeOf ts) (planOf code) i) .0 (f ∙ ap some z))))
         (λ h g f. let z : _≡_ {A = ℕ} 0 1 = cc (within h g f, e) in absurd (omega arith)),
     λ q.
         let (s, o, f) = q in
         let h = (spelled-exactly code) .1 s in
-        nine h ((plan-named-exactly (length ts) code h) .1 (rw (spelled-plan s) o)) ((first-broken (shapeOf ts) (planOf code) i) .1 (rw (spelled-plan s) f)),
+        nine h ((plan-named-exactly (length ts) code h) .1 (rw (spelled-plan s) o)) ((first-lacking (shapeOf ts) (planOf code) i) .1 (rw (spelled-plan s) f)),
   )
 
-  -- within the rules: they spell a plan that names each table once and is well-behaved
-  pub within-exactly : (p : Plan) → (planVerdict ts code ≡ admitted ts p) ↔ (Small p × (encode p ≡ code) × NamedOnce (length ts) (tables p) × WellBehaved (shapeOf ts) p)
+  -- within the rules: they spell a plan that names each table once and can be mended, and the mended one is followed
+  pub within-exactly : (p : Plan) → (planVerdict ts code ≡ admitted ts p) ↔ ((s : SpellsPlan code) × NamedOnce (length ts) (tables (s .plan)) × Mendable (shapeOf ts) (s .plan) × (mend (shapeOf ts) (s .plan) ≡ p))
   within-exactly p = (
     λ e. judged (λ k h. other (seven h) e) (λ k h g. other (eight h g) e) (λ k h g f. other (nine h g f) e)
         (λ h g f.
-        let z : planOf code ≡ p = cc (within h g f, e) in
-        let (s, c) = spelled-out code h in
-        rw (← z) (s, c, (plan-named-exactly (length ts) code h) .0 g, (behaved-exactly (shapeOf ts) (planOf code)) .0 f)),
+        let z : mend (shapeOf ts) (planOf code) ≡ p = cc (within h g f, e) in
+        let s = (spelled-exactly code) .0 h in
+        (s, rw (← spelled-plan s) ((plan-named-exactly (length ts) code h) .0 g), rw (← spelled-plan s) ((mendable-exactly (shapeOf ts) (planOf code)) .0 f), rw (← spelled-plan s) z)),
     λ q.
-        let (s, c, o, b) = q in
-        let h = (spelled-exactly code) .1 (record { plan = p; small = s; is = c }) in
-        let z : planOf code ≡ p = spelled-plan (record { plan = p; small = s; is = c }) in
-        within h ((plan-named-exactly (length ts) code h) .1 (rw z o)) ((behaved-exactly (shapeOf ts) (planOf code)) .1 (rw z b)) ∙ ap (admitted ts) z,
+        let (s, o, m, z) = q in
+        let h = (spelled-exactly code) .1 s in
+        within h ((plan-named-exactly (length ts) code h) .1 (rw (spelled-plan s) o)) ((mendable-exactly (shapeOf ts) (planOf code)) .1 (rw (spelled-plan s) m))
+        ∙ ap (λ x. admitted ts (mend (shapeOf ts) x)) (spelled-plan s) ∙ ap (admitted ts) z,
   )
     where
       other : {P : Type 0} {v : Verdict} {n d : ℕ} → v ≡ refused n d → v ≡ admitted ts p → P
@@ -129,12 +130,12 @@ module _ (bytes : List ℕ) where
   pub file-eight : (i : ℕ) → (rulesVerdict bytes ≡ refused 8 i) ↔ ReadsPlan bytes (λ code. SpellsPlan code × FirstMisnamed (length ts) code i)
   file-eight i = past-six (refused 8 i) (λ code. SpellsPlan code × FirstMisnamed (length ts) code i) (λ n d e. let z : 8 ≡ n = cc in omega arith) (λ code. eight-exactly ts code i)
 
-  pub file-nine : (i : ℕ) → (rulesVerdict bytes ≡ refused 9 i) ↔ ReadsPlan bytes (λ code. (s : SpellsPlan code) × NamedOnce (length ts) (tables (s .plan)) × FirstBroken (shapeOf ts) (s .plan) i)
+  pub file-nine : (i : ℕ) → (rulesVerdict bytes ≡ refused 9 i) ↔ ReadsPlan bytes (λ code. (s : SpellsPlan code) × NamedOnce (length ts) (tables (s .plan)) × FirstLacking (shapeOf ts) (s .plan) i)
   file-nine i =
-      past-six (refused 9 i) (λ code. (s : SpellsPlan code) × NamedOnce (length ts) (tables (s .plan)) × FirstBroken (shapeOf ts) (s .plan) i) (λ n d e. let z : 9 ≡ n = cc in omega arith)
+      past-six (refused 9 i) (λ code. (s : SpellsPlan code) × NamedOnce (length ts) (tables (s .plan)) × FirstLacking (shapeOf ts) (s .plan) i) (λ n d e. let z : 9 ≡ n = cc in omega arith)
       (λ code. nine-exactly ts code i)
 
-  pub file-within : (p : Plan) → (rulesVerdict bytes ≡ admitted ts p) ↔ ReadsPlan bytes (λ code. Small p × (encode p ≡ code) × NamedOnce (length ts) (tables p) × WellBehaved (shapeOf ts) p)
+  pub file-within : (p : Plan) → (rulesVerdict bytes ≡ admitted ts p) ↔ ReadsPlan bytes (λ code. (s : SpellsPlan code) × NamedOnce (length ts) (tables (s .plan)) × Mendable (shapeOf ts) (s .plan) × (mend (shapeOf ts) (s .plan) ≡ p))
   file-within p =
-      past-six (admitted ts p) (λ code. Small p × (encode p ≡ code) × NamedOnce (length ts) (tables p) × WellBehaved (shapeOf ts) p) (λ n d e. let z : _≡_ {A = ℕ} 0 1 = cc in absurd (omega arith))
+      past-six (admitted ts p) (λ code. (s : SpellsPlan code) × NamedOnce (length ts) (tables (s .plan)) × Mendable (shapeOf ts) (s .plan) × (mend (shapeOf ts) (s .plan) ≡ p)) (λ n d e. let z : _≡_ {A = ℕ} 0 1 = cc in absurd (omega arith))
       (λ code. within-exactly ts code p)

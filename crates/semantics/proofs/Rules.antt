@@ -11,7 +11,8 @@ use borrow.Author.Tests.{ltb-true, ltb-false, lt-ltb, le-ltb}
 use Rattle.semantics.specs.Lists.{oneIf, any, sum, filter, from}
 use Rattle.semantics.specs.Files.{Table, hasBit, Reading, fault, planBytes, read}
 use Rattle.semantics.specs.Plans.{Plan, tables, misplaced, planOf, misnamed}
-use Rattle.semantics.specs.Shapes.{noTable, shapeOf, holds, illBehaved, rowsIn, scratchNeed}
+use Rattle.semantics.specs.Shapes.{noTable, shapeOf, holds, rowsIn, scratchNeed}
+use Rattle.semantics.specs.Mending.{mend, unmendable}
 use Rattle.semantics.specs.Outcome.{Verdict, refused, admitted, planVerdict, readVerdict, rulesVerdict, scratchVerdict, verdict, WithinRules}
 use Rattle.semantics.proofs.Cases.{cases, option-cases}
 use Rattle.semantics.proofs.Lists.{sum-one, any-sum, length-filter-sum}
@@ -19,7 +20,8 @@ use Rattle.semantics.proofs.Numbers.{length-from, sum-shift}
 use Rattle.semantics.proofs.Reading.{ending-cases, fault-number}
 use Rattle.semantics.proofs.Spelling.{spelled-out}
 use Rattle.semantics.proofs.Naming.{plan-names, plan-sum, not-misnamed}
-use Rattle.semantics.proofs.WellBehaved.{illBehaved-wellBehaved}
+use Rattle.semantics.proofs.Mending.{mend-sum, mend-each, mend-wellBehaved}
+use Rattle.semantics.proofs.Mendable.{unmendable-mendable, mend-small}
 
 pub verdict-cases : {P : Type 0} (v : Verdict) → ((n d : ℕ) → v ≡ refused n d → P) → ((ts : List Table) (p : Plan) → v ≡ admitted ts p → P) → P
 verdict-cases (refused n d) f g = f n d refl
@@ -35,14 +37,14 @@ unfolding planVerdict
 plan-judged ts code =
     option-cases (misplaced 1 0 code)
     (λ h. option-cases (misnamed (length ts) [] 0 code)
-    (λ g. option-cases (illBehaved (shapeOf ts) (planOf code) 0)
+    (λ g. option-cases (unmendable (shapeOf ts) (planOf code) 0)
     (λ f. rw (h, g, f, planVerdict) (
       refl,
       record {
-        small = (spelled-out code h) .0;
-        named = rw (plan-names code h) at ((not-misnamed (length ts) code g) .present);
-        sums = λ k. plan-sum k (length ts) code h g;
-        behaved = illBehaved-wellBehaved (shapeOf ts) (planOf code) 0 f;
+        small = mend-small (shapeOf ts) (planOf code) ((spelled-out code h) .0);
+        named = mend-each (shapeOf ts) (λ t. t < length ts) (planOf code) (rw (plan-names code h) at ((not-misnamed (length ts) code g) .present));
+        sums = λ k. mend-sum (shapeOf ts) k (planOf code) ∙ plan-sum k (length ts) code h g;
+        behaved = mend-wellBehaved (shapeOf ts) (planOf code) (unmendable-mendable (shapeOf ts) (planOf code) 0 f);
       },
     ))
     (λ i f. rw (h, g, f, planVerdict) (omega arith)))

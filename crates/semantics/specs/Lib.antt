@@ -2,6 +2,8 @@ pub mod Lists
 pub mod Files
 pub mod Plans
 pub mod Shapes
+pub mod JoinTrees
+pub mod Mending
 pub mod Results
 pub mod SearchTrees
 pub mod Totals

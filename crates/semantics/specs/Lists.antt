@@ -75,6 +75,13 @@ same [] (y ∷ ys) = false
 same (x ∷ xs) [] = false
 same (x ∷ xs) (y ∷ ys) = eqb x y && same xs ys
 
+-- one list is the other in another order
+pub data Permutation : List ℕ → List ℕ → Type 0 where
+  unchanged : {xs : List ℕ} → Permutation xs xs
+  exchanged : (xs ys : List ℕ) → Permutation (xs ++ ys) (ys ++ xs)
+  beside : {xs ys zs ws : List ℕ} → Permutation xs ys → Permutation zs ws → Permutation (xs ++ zs) (ys ++ ws)
+  after : {xs ys zs : List ℕ} → Permutation xs ys → Permutation ys zs → Permutation xs zs
+
 -- each number is below those after it
 abbrev pub Rising : List ℕ → Type 0
 Rising [] = Unit {0}

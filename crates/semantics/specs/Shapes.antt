@@ -1,14 +1,14 @@
--- What a plan says of the tables' masks and row counts alone: join attributes, well-behaved plans (answer 9), the scratch
--- needed (answer 10) and the width of the output. Nothing here can see an attribute value.
+-- What a plan says of the tables' masks and row counts alone: join attributes, well-behaved plans, the scratch needed (answer
+-- 10) and the width of the output. Nothing here can see an attribute value.
 use mathlib.Core.Path.{_≡_}
 use mathlib.Core.Bool.{Bool, true, false, _&&_}
 use mathlib.Core.List.{List, [], _∷_, _++_}
 use mathlib.Core.Option.{Option, none, some}
-use Prim.Native.Nat.{ℕ, zero, suc, _+_, _*_, _/_, min, max}
+use Prim.Native.Nat.{ℕ, _+_, _*_, _/_, min, max}
 use lib.ListN.{length, getD}
 use Rattle.semantics.specs.Lists.{any, all, filter, sum, upTo}
 use Rattle.semantics.specs.Files.{Table, hasBit}
-use Rattle.semantics.specs.Plans.{Plan, scan, join, encode, tables, leftmost}
+use Rattle.semantics.specs.Plans.{Plan, scan, join, tables, leftmost}
 
 -- the tables by number, without their values: the row count, and which attributes the table has
 pub record Shape : Type 0 where
@@ -57,12 +57,6 @@ module _ (S : Shape) where
   abbrev pub WellBehaved : Plan → Type 0
   WellBehaved (scan t) = Unit {0}
   WellBehaved (join l r) = (behaves l r ≡ true) × WellBehaved l × WellBehaved r
-
-  -- Answer 9: the index of the first FF whose join breaks the rule, in a plan whose bytes begin at index i
-  abbrev pub illBehaved : Plan → ℕ → Option ℕ
-  illBehaved (scan t) i = none
-  illBehaved (join l r) i =
-      elim (behaves l r) [ false ↦ some i | true ↦ orElse (illBehaved l (suc i)) (illBehaved r (suc i + length (encode l))) ]
 
   -- a: the attributes of the widest join key, 0 without joins
   abbrev pub widestKey : Plan → ℕ

@@ -1,14 +1,20 @@
 use Rattle.plans.proofs.Whole.{nothing-is}
-use Rattle.plans.proofs.Scratch.{admits, accepted, plan-refused}
+use Rattle.plans.proofs.Scratch.{follows, accepted, as-sent, named, mendables, plan-refused}
 use borrow.Author.Needs.{needs}
 use Rattle.plans.proofs.admission.admit_plan.Statement.{statement}
 use Rattle.plans.proofs.admission.admit_plan.Tie as tie
+use Rattle.plans.proofs.admission.admit_plan.Reads as reads
+use Rattle.plans.proofs.admission.admit_plan.Lts as lts
+use Rattle.plans.proofs.admission.check_plan.Reads as check-plan-reads
+use Rattle.plans.proofs.admission.refusal.Reads as refusal-reads
+use Rattle.plans.proofs.admission.with_mended.Reads as with-mended-reads
+use Rattle.plans.proofs.admission.with_scratch.Reads as with-scratch-reads
 
-plan-verdict-requires : tie.Need-plan-verdict-requires
-plan-verdict-requires c κs = search needs
+check-plan-requires : tie.Need-check-plan-requires
+check-plan-requires c κs = search needs
 
-enum-known-verdict : tie.Need-enum-known-verdict
-enum-known-verdict c = search needs
+enum-known-check : tie.Need-enum-known-check
+enum-known-check c = search needs
 
 refusal-requires : tie.Need-refusal-requires
 refusal-requires c κs = search needs
@@ -17,22 +23,34 @@ enum-told : tie.Need-enum-told
 enum-told c = search needs
 
 with-scratch-requires : tie.Need-with-scratch-requires
-with-scratch-requires c κs = (accepted _ _ _ (c .before .before .before .before .plan-verdict .ensures) (c .before .before .enum-told .given .1) (c .before .before .before .before .before .before .pre .0), c .before .before .before .before .before .before .pre .1)
+with-scratch-requires c κs = (accepted _ _ _ (c .before .before .before .before .check-plan .ensures) (c .before .before .enum-told .given .1) (c .before .before .before .before .before .before .pre .0), c .before .before .before .before .before .before .pre .1)
+
+enum-told-2 : tie.Need-enum-told-2
+enum-told-2 c = search needs
+
+with-mended-requires : tie.Need-with-mended-requires
+with-mended-requires c κs = (mendables _ _ _ (c .before .before .before .before .check-plan .ensures) (c .before .before .enum-told2 .given .1) (c .before .before .before .before .before .before .pre .0), c .before .before .before .before .before .before .pre .1)
 
 returns : tie.Need-returns
-returns c = λ ts h. rw (c .refusal .ensures) (plan-refused _ _ _ (c .before .before .before .before .plan-verdict .ensures) _ _ _ (c .before .before .verdict .given .1) _ (nothing-is _ _ (c .before .before .before .before .before .before .pre .1)) ts h)
+returns c = λ ts h. rw (c .refusal .ensures) (plan-refused _ _ _ (c .before .before .before .before .check-plan .ensures) _ _ _ (c .before .before .check .given .1) _ (nothing-is _ _ (c .before .before .before .before .before .before .pre .1)) ts h)
 
 returns-2 : tie.Need-returns-2
-returns-2 c = λ ts h. c .with-scratch .ensures ts h (admits _ _ _ (c .before .before .before .before .before .plan-verdict .ensures) (c .before .before .before .enum-told .given .1) ts h)
+returns-2 c = λ ts h. as-sent _ _ _ (c .before .before .before .before .before .check-plan .ensures) (c .before .before .before .enum-told .given .1) ts h _ _ (c .with-scratch .ensures ts h (follows _ _ _ (c .before .before .before .before .before .check-plan .ensures) (c .before .before .before .enum-told .given .1) ts h))
+
+returns-3 : tie.Need-returns-3
+returns-3 c = λ ts h. c .with-mended .ensures ts h (named _ _ _ (c .before .before .before .before .before .check-plan .ensures) (c .before .before .before .enum-told2 .given .1) ts h)
 
 pub admit-plan-spec : {M : Type 1} → statement M
 admit-plan-spec =
     tie.close
     (tie.spec
-    plan-verdict-requires
-    enum-known-verdict
+    check-plan-requires
+    enum-known-check
     refusal-requires
     enum-told
     with-scratch-requires
+    enum-told-2
+    with-mended-requires
     returns
-    returns-2)
+    returns-2
+    returns-3)

@@ -7,7 +7,7 @@ use Rattle.plans.proofs.admission.with_scratch.Statement.{statement}
 use Rattle.plans.proofs.admission.with_scratch.Tie as tie
 
 schedule-of-requires : tie.Need-schedule-of-requires
-schedule-of-requires c κs = let q = c .before .before .before .before .before .before .before .pre .0 in (plannable _ _ (q .ts) (q .tabled) (q .admits), c .before .before .before .before .before .before .before .pre .1)
+schedule-of-requires c κs = let q = c .before .before .before .before .before .before .before .pre .0 in (plannable _ _ (q .ts) (q .tabled) (q .follows), c .before .before .before .before .before .before .before .pre .1)
 
 index-1-words-needed : tie.Need-index-1-words-needed
 index-1-words-needed c = search needs
@@ -17,7 +17,7 @@ index-2-words-needed c = search needs
 
 words-needed-requires : tie.Need-words-needed-requires
 unfolding scheduleIn
-words-needed-requires c κs = let q = c .before .before .before .before .before .before .before .before .before .before .pre .0 in countable _ _ (q .ts) (q .tabled) (q .admits) _ (c .before .before .schedule-of .ensures)
+words-needed-requires c κs = let q = c .before .before .before .before .before .before .before .before .before .before .pre .0 in countable _ _ (q .ts) (q .tabled) (q .follows) _ (c .before .before .schedule-of .ensures)
 
 refusal-requires : tie.Need-refusal-requires
 refusal-requires c κs = search needs

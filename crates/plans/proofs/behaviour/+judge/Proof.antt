@@ -2,7 +2,7 @@ use Prim.Native.Nat.{_-_}
 use lib.ListN.{length}
 use borrow.Author.Needs.{needs}
 use native.Mathlib.Omega.{arith}
-use Rattle.plans.proofs.Places.{starts, no-other, left, right, left-ends}
+use Rattle.mending.proofs.Places.{starts, no-other, left, right, left-ends}
 use Rattle.plans.proofs.Judging.{one-table, two-plans, left-index, right-index}
 use Prim.Native.Nat.{ℕ, _<_}
 use borrow.Fn.Kinds.{In}
@@ -10,7 +10,7 @@ use borrow.Fn.PlainCycle.{Measures, is, falls, and}
 use Rattle.plans.proofs.behaviour.judge.Reads as judge
 use Rattle.plans.proofs.behaviour.judge.Kinds as judge-kinds
 use Rattle.plans.proofs.behaviour.+judge.Lts-judge as judge-lts
-use Rattle.plans.proofs.behaviour.broken_at.Reads as broken-at-reads
+use Rattle.plans.proofs.behaviour.behaves.Reads as behaves-reads
 use Rattle.words.proofs.index.Reads as index-reads
 use Rattle.plans.proofs.behaviour.+judge.{statement}
 use Rattle.plans.proofs.behaviour.+judge.Tie.{close}
@@ -27,8 +27,8 @@ judge-below t = and 2 judge-kinds.ps (falls 2 judge-kinds.ps _<_ μ-judge t) jud
 judge-shared-slice-read-b : (t : ℕ) → judge-lts.Need-shared-slice-read-b (
   judge-below t,
   judge.Post,
-  broken-at-reads.Asked,
-  broken-at-reads.Learnt,
+  behaves-reads.Asked,
+  behaves-reads.Learnt,
   index-reads.Asked,
   index-reads.Learnt,
 ) (judge-at t) judge.Post
@@ -37,8 +37,8 @@ judge-shared-slice-read-b t c = starts _ _ (c .before .before .pre .1)
 judge-add-judge : (t : ℕ) → judge-lts.Need-add-judge (
   judge-below t,
   judge.Post,
-  broken-at-reads.Asked,
-  broken-at-reads.Learnt,
+  behaves-reads.Asked,
+  behaves-reads.Learnt,
   index-reads.Asked,
   index-reads.Learnt,
 ) (judge-at t) judge.Post
@@ -47,8 +47,8 @@ judge-add-judge t c = omega (arith, starts _ _ (c .before .before .before .pre .
 judge-judge-requires : (t : ℕ) → judge-lts.Need-judge-requires (
   judge-below t,
   judge.Post,
-  broken-at-reads.Asked,
-  broken-at-reads.Learnt,
+  behaves-reads.Asked,
+  behaves-reads.Learnt,
   index-reads.Asked,
   index-reads.Learnt,
 ) (judge-at t) judge.Post
@@ -57,8 +57,8 @@ judge-judge-requires t c κs = let q = c .before .before .before .pre .1 in (ome
 judge-judge-requires-2 : (t : ℕ) → judge-lts.Need-judge-requires-2 (
   judge-below t,
   judge.Post,
-  broken-at-reads.Asked,
-  broken-at-reads.Learnt,
+  behaves-reads.Asked,
+  behaves-reads.Learnt,
   index-reads.Asked,
   index-reads.Learnt,
 ) (judge-at t) judge.Post
@@ -68,61 +68,61 @@ judge-judge-requires-2 t c κs = let q = c .before .before .before .before .pre 
       right _ _ _ k (λ p e h. (c .judge .ensures p e h) .next) q,
     )
 
-judge-mul-broken-at : (t : ℕ) → judge-lts.Need-mul-broken-at (
+judge-mul-behaves : (t : ℕ) → judge-lts.Need-mul-behaves (
   judge-below t,
   judge.Post,
-  broken-at-reads.Asked,
-  broken-at-reads.Learnt,
+  behaves-reads.Asked,
+  behaves-reads.Learnt,
   index-reads.Asked,
   index-reads.Learnt,
 ) (judge-at t) judge.Post
-judge-mul-broken-at t c = omega (arith, left-index _ _ _ (c .before .before .match .keys1) _ (c .before .judge .ensures) (c .before .before .before .before .before .pre .1))
+judge-mul-behaves t c = omega (arith, left-index _ _ _ (c .before .before .match .keys1) _ (c .before .judge .ensures) (c .before .before .before .before .before .pre .1))
 
-judge-element-copy-out-broken-at : (t : ℕ) → judge-lts.Need-element-copy-out-broken-at (
+judge-element-copy-out-behaves : (t : ℕ) → judge-lts.Need-element-copy-out-behaves (
   judge-below t,
   judge.Post,
-  broken-at-reads.Asked,
-  broken-at-reads.Learnt,
+  behaves-reads.Asked,
+  behaves-reads.Learnt,
   index-reads.Asked,
   index-reads.Learnt,
 ) (judge-at t) judge.Post
-judge-element-copy-out-broken-at t c = omega (arith, left-index _ _ _ (c .before .before .match .keys1) _ (c .before .judge .ensures) (c .before .before .before .before .before .pre .1))
+judge-element-copy-out-behaves t c = omega (arith, left-index _ _ _ (c .before .before .match .keys1) _ (c .before .judge .ensures) (c .before .before .before .before .before .pre .1))
 
-judge-mul-broken-at-2 : (t : ℕ) → judge-lts.Need-mul-broken-at-2 (
+judge-mul-behaves-2 : (t : ℕ) → judge-lts.Need-mul-behaves-2 (
   judge-below t,
   judge.Post,
-  broken-at-reads.Asked,
-  broken-at-reads.Learnt,
+  behaves-reads.Asked,
+  behaves-reads.Learnt,
   index-reads.Asked,
   index-reads.Learnt,
 ) (judge-at t) judge.Post
-judge-mul-broken-at-2 t c = omega (arith, right-index _ _ _ (c .before .before .before .match .keys1) _ (c .before .before .judge .ensures) (c .before .before .before .before .before .before .pre .1) _ (c .before .judge2 .ensures))
+judge-mul-behaves-2 t c = omega (arith, right-index _ _ _ (c .before .before .before .match .keys1) _ (c .before .before .judge .ensures) (c .before .before .before .before .before .before .pre .1) _ (c .before .judge2 .ensures))
 
-judge-element-copy-out-broken-at-2 : (t : ℕ) → judge-lts.Need-element-copy-out-broken-at-2 (
+judge-element-copy-out-behaves-2 : (t : ℕ) → judge-lts.Need-element-copy-out-behaves-2 (
   judge-below t,
   judge.Post,
-  broken-at-reads.Asked,
-  broken-at-reads.Learnt,
+  behaves-reads.Asked,
+  behaves-reads.Learnt,
   index-reads.Asked,
   index-reads.Learnt,
 ) (judge-at t) judge.Post
-judge-element-copy-out-broken-at-2 t c = omega (arith, right-index _ _ _ (c .before .before .before .match .keys1) _ (c .before .before .judge .ensures) (c .before .before .before .before .before .before .pre .1) _ (c .before .judge2 .ensures))
+judge-element-copy-out-behaves-2 t c = omega (arith, right-index _ _ _ (c .before .before .before .match .keys1) _ (c .before .before .judge .ensures) (c .before .before .before .before .before .before .pre .1) _ (c .before .judge2 .ensures))
 
-judge-broken-at-requires : (t : ℕ) → judge-lts.Need-broken-at-requires (
+judge-behaves-requires : (t : ℕ) → judge-lts.Need-behaves-requires (
   judge-below t,
   judge.Post,
-  broken-at-reads.Asked,
-  broken-at-reads.Learnt,
+  behaves-reads.Asked,
+  behaves-reads.Learnt,
   index-reads.Asked,
   index-reads.Learnt,
 ) (judge-at t) judge.Post
-judge-broken-at-requires t c κs = search needs
+judge-behaves-requires t c κs = search needs
 
 judge-index-requires : (t : ℕ) → judge-lts.Need-index-requires (
   judge-below t,
   judge.Post,
-  broken-at-reads.Asked,
-  broken-at-reads.Learnt,
+  behaves-reads.Asked,
+  behaves-reads.Learnt,
   index-reads.Asked,
   index-reads.Learnt,
 ) (judge-at t) judge.Post
@@ -131,8 +131,8 @@ judge-index-requires t c κs = search needs
 judge-mul-t24 : (t : ℕ) → judge-lts.Need-mul-t24 (
   judge-below t,
   judge.Post,
-  broken-at-reads.Asked,
-  broken-at-reads.Learnt,
+  behaves-reads.Asked,
+  behaves-reads.Learnt,
   index-reads.Asked,
   index-reads.Learnt,
 ) (judge-at t) judge.Post
@@ -141,8 +141,8 @@ judge-mul-t24 t c = omega (arith, c .index .ensures .0, c .before .if1 .taken)
 judge-element-copy-out-t27 : (t : ℕ) → judge-lts.Need-element-copy-out-t27 (
   judge-below t,
   judge.Post,
-  broken-at-reads.Asked,
-  broken-at-reads.Learnt,
+  behaves-reads.Asked,
+  behaves-reads.Learnt,
   index-reads.Asked,
   index-reads.Learnt,
 ) (judge-at t) judge.Post
@@ -151,8 +151,8 @@ judge-element-copy-out-t27 t c = omega (arith, c .index .ensures .0, c .before .
 judge-add-t28 : (t : ℕ) → judge-lts.Need-add-t28 (
   judge-below t,
   judge.Post,
-  broken-at-reads.Asked,
-  broken-at-reads.Learnt,
+  behaves-reads.Asked,
+  behaves-reads.Learnt,
   index-reads.Asked,
   index-reads.Learnt,
 ) (judge-at t) judge.Post
@@ -161,20 +161,20 @@ judge-add-t28 t c = omega (arith, starts _ _ (c .before .before .before .before 
 judge-returns : (t : ℕ) → judge-lts.Need-returns (
   judge-below t,
   judge.Post,
-  broken-at-reads.Asked,
-  broken-at-reads.Learnt,
+  behaves-reads.Asked,
+  behaves-reads.Learnt,
   index-reads.Asked,
   index-reads.Learnt,
 ) (judge-at t) judge.Post
 judge-returns t c = λ p e h.
-    rw (c .before .before .broken-at .ensures)
+    rw (c .before .before .behaves .ensures)
     (two-plans _ _ _ (c .before .before .before .before .before .before .before .match .keys1) _ _ (c .before .before .before .before .before .before .judge .ensures) (c .before .before .before .before .before .judge2 .ensures) p e h)
 
 judge-returns-2 : (t : ℕ) → judge-lts.Need-returns-2 (
   judge-below t,
   judge.Post,
-  broken-at-reads.Asked,
-  broken-at-reads.Learnt,
+  behaves-reads.Asked,
+  behaves-reads.Learnt,
   index-reads.Asked,
   index-reads.Learnt,
 ) (judge-at t) judge.Post
@@ -183,8 +183,8 @@ judge-returns-2 t c = λ p e h. one-table _ _ _ (c .before .before .before .matc
 judge-returns-3 : (t : ℕ) → judge-lts.Need-returns-3 (
   judge-below t,
   judge.Post,
-  broken-at-reads.Asked,
-  broken-at-reads.Learnt,
+  behaves-reads.Asked,
+  behaves-reads.Learnt,
   index-reads.Asked,
   index-reads.Learnt,
 ) (judge-at t) judge.Post
@@ -194,8 +194,8 @@ pub +judge-spec : {M : Type 1} → statement M
 +judge-spec = close μ-judge λ t. judge-lts.spec (
   judge-below t,
   judge.Post,
-  broken-at-reads.Asked,
-  broken-at-reads.Learnt,
+  behaves-reads.Asked,
+  behaves-reads.Learnt,
   index-reads.Asked,
   index-reads.Learnt,
 )
@@ -205,11 +205,11 @@ pub +judge-spec : {M : Type 1} → statement M
     (judge-add-judge t)
     (judge-judge-requires t)
     (judge-judge-requires-2 t)
-    (judge-mul-broken-at t)
-    (judge-element-copy-out-broken-at t)
-    (judge-mul-broken-at-2 t)
-    (judge-element-copy-out-broken-at-2 t)
-    (judge-broken-at-requires t)
+    (judge-mul-behaves t)
+    (judge-element-copy-out-behaves t)
+    (judge-mul-behaves-2 t)
+    (judge-element-copy-out-behaves-2 t)
+    (judge-behaves-requires t)
     (judge-index-requires t)
     (judge-mul-t24 t)
     (judge-element-copy-out-t27 t)

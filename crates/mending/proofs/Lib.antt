@@ -1,0 +1,12 @@
+pub mod Places
+pub mod Around
+pub mod Bytes
+pub mod Sides
+pub mod Held
+pub mod Hangs
+pub mod Lacks
+pub mod Picks
+pub mod Roots
+pub mod Trees
+pub mod TreeBytes
+pub mod WholePlans

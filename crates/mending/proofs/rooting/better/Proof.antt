@@ -1,0 +1,16 @@
+use borrow.Author.Needs.{needs}
+use native.Mathlib.Omega.{arith}
+use Rattle.mending.proofs.Picks.{better-taken, better-left}
+use Rattle.mending.proofs.rooting.better.Statement.{statement}
+use Rattle.mending.proofs.rooting.better.Tie as tie
+use Rattle.mending.proofs.rooting.better.Reads as reads
+use Rattle.mending.proofs.rooting.better.Lts as lts
+
+returns : tie.Need-returns
+returns c = better-taken _ _ _ (c .if1 .taken)
+
+returns-2 : tie.Need-returns-2
+returns-2 c = better-left _ _ _ (c .if1 .left)
+
+pub better-spec : {M : Type 1} → statement M
+better-spec = tie.close (tie.spec returns returns-2)

@@ -1,0 +1,15 @@
+use borrow.Author.Needs.{needs}
+use Rattle.plans.proofs.behaviour.is_well_behaved.Statement.{statement}
+use Rattle.plans.proofs.behaviour.is_well_behaved.Tie as tie
+use Rattle.plans.proofs.behaviour.is_well_behaved.Reads as reads
+use Rattle.plans.proofs.behaviour.is_well_behaved.Lts as lts
+use Rattle.plans.proofs.behaviour.judge.Reads as judge-reads
+
+judge-requires : tie.Need-judge-requires
+judge-requires c κs = search needs
+
+returns : tie.Need-returns
+returns c = λ S M p h. ((c .judge .ensures p _ h) .rules S M) .behaved
+
+pub is-well-behaved-spec : {M : Type 1} → statement M
+is-well-behaved-spec = tie.close (tie.spec judge-requires returns)
