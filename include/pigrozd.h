@@ -7,7 +7,7 @@
  * - file_bytes is at most PIGROZD_MOST_BYTES, scratch_words and output_words are at most PIGROZD_MOST_WORDS: no buffer has
  *   2^63 bytes or more. (No memory of such a size can be had on x86-64; a length that was worked out wrong can be one.)
  * - The three do not overlap, and nothing else writes to them during the call.
- * - 64 KB of stack are free (measured: 31 KB at most, for a plan of 255 bytes FF; 15 KB for 16 tables).
+ * - 64 KB of stack are free (measured: 27 KB at most, for a plan of 255 bytes FF; 14 KB for 16 tables).
  * Nothing is asked of what they hold. The function calls nothing but memcpy and memset and keeps nothing, so that calls with
  * buffers of their own may run side by side.
  *

@@ -44,6 +44,17 @@ needs_program = unittest.skipUnless(os.path.exists(PROGRAM), "the program is not
 
 SAMPLE = load("crates", "pigrozd", "stdin")
 SAMPLE_PLAN = "(frames (exposures readings))"
+SAMPLE_DRAWN = """\
+join on exposure, byte 0 of the plan
+|     frames (4 rows) looked up in exposures (4 rows)
+|     well-behaved: both have exposure
+|-- frames: 4 rows (frame, exposure)
+`-- join on reading, byte 2 of the plan
+    |     exposures (4 rows) looked up in readings (3 rows)
+    |     well-behaved: both have reading
+    |-- exposures: 4 rows (exposure, reading)
+    `-- readings: 3 rows (reading, centikelvin)
+"""
 CSVS = [path("examples", "csv", name + ".csv") for name in ("frames", "exposures", "readings")]
 ROWS = "frame,exposure,reading,centikelvin\n10,1,7,29510\n10,1,7,29510\n11,2,9,29530\n12,2,9,29530\n"
 

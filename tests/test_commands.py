@@ -16,6 +16,7 @@ from support import (
     PROGRAM,
     ROWS,
     SAMPLE,
+    SAMPLE_DRAWN,
     SAMPLE_PLAN,
     TOP,
     Folder,
@@ -633,17 +634,7 @@ class RowsOfPrints(Folder):
 class Plans(Folder):
     def test_sample(self):
         self.command("pack", self.at("out"), "--plan", SAMPLE_PLAN, *CSVS)
-        tree = """\
-join on exposure, byte 0 of the plan
-|     frames (4 rows) looked up in exposures (4 rows)
-|     well-behaved: both have exposure
-|-- frames: 4 rows (frame, exposure)
-`-- join on reading, byte 2 of the plan
-    |     exposures (4 rows) looked up in readings (3 rows)
-    |     well-behaved: both have reading
-    |-- exposures: 4 rows (exposure, reading)
-    `-- readings: 3 rows (reading, centikelvin)
-
+        tree = SAMPLE_DRAWN + """
 the plan is well-behaved, and the join follows it as it is
 scratch needed: 96 words
 a result: frame, exposure, reading, centikelvin

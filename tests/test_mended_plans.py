@@ -6,7 +6,7 @@ import re
 import unittest
 from unittest import mock
 
-from support import CSVS, Folder, load
+from support import CSVS, Folder, SAMPLE_DRAWN, load
 
 import pigrozd
 import reference
@@ -297,22 +297,13 @@ join on exposure, byte 0 of the plan
     `-- exposures: 4 rows (exposure, reading)
 
 as mended:
-join on exposure, byte 0 of the plan
-|     frames (4 rows) looked up in exposures (4 rows)
-|     well-behaved: both have exposure
-|-- frames: 4 rows (frame, exposure)
-`-- join on reading, byte 2 of the plan
-    |     exposures (4 rows) looked up in readings (3 rows)
-    |     well-behaved: both have reading
-    |-- exposures: 4 rows (exposure, reading)
-    `-- readings: 3 rows (reading, centikelvin)
-
+%s
 the plan as sent, (frames (readings exposures)), is not well-behaved: the join follows (frames (exposures readings)), \
 bytes ff 00 ff 01 02
 penalty: 3 rows = 3 (readings, at byte 2 as sent)
 scratch needed: 96 words
 a result: frame, exposure, reading, centikelvin
-"""
+""" % SAMPLE_DRAWN
 
 
 class Drawings(Folder):

@@ -8,10 +8,9 @@ use lib.Dec.{eqb}
 use borrow.Author.Tests.{eqb-true, eqb-false, ne-eqb}
 use Rattle.semantics.specs.Plans.{Plan, scan, join, encode, tables, leftmost, Small}
 use Rattle.semantics.specs.Lists.{any}
-use Rattle.semantics.proofs.Cases.{cases}
+use Rattle.semantics.proofs.Cases.{cases, or-cases}
 use Rattle.semantics.proofs.Lists.{any-append}
 use Rattle.semantics.specs.JoinTrees.{namesTable, hangUnder}
-use Rattle.semantics.proofs.JoinTrees.{or-cases}
 use Rattle.semantics.proofs.Mending.{not-left}
 
 -- no bytes, or the last of them is a table number

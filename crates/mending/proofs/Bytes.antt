@@ -1,20 +1,19 @@
 -- The tables that a plan names, and the bytes that name them.
 use mathlib.Core.Path.{_≡_, refl, sym, ap, ap₂, _∙_}
-use mathlib.Core.Bool.{true, false, _||_}
+use mathlib.Core.Bool.{true, false}
 use mathlib.Core.List.{List, [], _∷_, _++_, map, map-append}
 use Prim.Native.Nat.{ℕ, suc, _+_, _≤_, _<_, zero-le}
 use native.Mathlib.Omega.{arith}
 use native.Mathlib.Numerals.{add-one}
 use lib.ListN.{length, getD, length-append}
 use lib.Dec.{eqb, ltb}
-use borrow.Author.Tests.{eqb-true, eqb-false, eq-eqb, ne-eqb, lt-ltb, le-ltb, ltb-true, ltb-false}
-use Rattle.semantics.specs.Lists.{any, filter, from}
+use borrow.Author.Tests.{eqb-true, eqb-false, eq-eqb, lt-ltb, ltb-true, ltb-false}
+use Rattle.semantics.specs.Lists.{filter, from}
 use Rattle.semantics.specs.Plans.{Plan, scan, join, encode, tables, Small}
 use Rattle.semantics.specs.JoinTrees.{namesTable}
-use Rattle.semantics.proofs.Cases.{cases, true-false}
+use Rattle.semantics.proofs.Cases.{cases, or-cases, or-left, or-right}
 use Rattle.semantics.proofs.Lists.{any-append, filter-append}
 use Rattle.semantics.proofs.Numbers.{from-split}
-use Rattle.semantics.proofs.JoinTrees.{or-cases, or-left, or-right}
 use Rattle.mending.specs.Places.{PlanAt, Planned}
 use Rattle.mending.specs.Parts.{Spanned, JoinIn}
 use Rattle.mending.specs.Rooting.{Distinct, seen}

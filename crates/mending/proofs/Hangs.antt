@@ -13,9 +13,8 @@ use borrow.Author.Tests.{eqb-true, eqb-false, eq-eqb, lt-ltb, ltb-true, ltb-fals
 use Rattle.semantics.specs.Lists.{any, filter}
 use Rattle.semantics.specs.Plans.{Plan, scan, join, encode, leftmost}
 use Rattle.semantics.specs.Enumeration.{headOf}
-use Rattle.semantics.proofs.Cases.{cases, true-false}
+use Rattle.semantics.proofs.Cases.{cases, or-cases}
 use Rattle.semantics.specs.JoinTrees.{namesTable, hangUnder}
-use Rattle.semantics.proofs.JoinTrees.{or-cases}
 use Rattle.mending.proofs.Around.{EndsInTable, Around, around}
 use Rattle.mending.specs.Places.{PlanAt, Planned}
 use Rattle.mending.proofs.Places.{stands, plan-span}

@@ -9,14 +9,13 @@ use native.Mathlib.Numerals.{add-one}
 use lib.ListN.{length, getD, take, drop}
 use lib.Seq.{take-add, drop-cons, drop-drop}
 use lib.Dec.{ltb}
-use borrow.Author.Tests.{lt-ltb, le-ltb, ltb-true, ltb-false}
+use borrow.Author.Tests.{lt-ltb, ltb-true, ltb-false}
 use Rattle.semantics.specs.Lists.{any, filter}
 use Rattle.semantics.specs.Plans.{Plan, scan, join, encode, tables}
 use Rattle.semantics.specs.Shapes.{joinAttributes, orElse}
 use Rattle.semantics.specs.Mending.{holdsAll, holders, bothHold, unmendable}
-use Rattle.semantics.proofs.Cases.{cases, true-false}
+use Rattle.semantics.proofs.Cases.{cases, true-false, or-left, or-right}
 use Rattle.semantics.proofs.Lists.{nonEmpty-filter}
-use Rattle.semantics.proofs.JoinTrees.{or-left, or-right}
 use Rattle.mending.specs.Places.{PlanAt}
 use Rattle.mending.specs.Parts.{shapeIn, Sided}
 use Rattle.mending.specs.Hanging.{holdsKey, HolderAt, FirstHolder}

@@ -17,10 +17,10 @@ use Rattle.semantics.specs.Mending.{cheapest, holders, chosen, cost, rightRoot,
 use Rattle.semantics.proofs.Cases.{cases}
 use Rattle.semantics.proofs.Lists.{filter-append}
 use Rattle.semantics.proofs.Mending.{cost-bound, left-holds, right-holds}
-use Rattle.mending.specs.Places.{PlanAt, Planned}
+use Rattle.mending.specs.Places.{PlanAt}
 use Rattle.mending.specs.Parts.{shapeIn, JoinIn, sidePlan, choose, slotOf, Sided}
 use Rattle.mending.specs.Hanging.{holdsKey, heldBy, candidates}
-use Rattle.mending.specs.Rooting.{unpicked, betterOf, packed, unpacked, rowsAdded, added, sideCost, sideRoot, RootOf, Kept, Buildable, MendableAt, seen, Picked, Searched}
+use Rattle.mending.specs.Rooting.{unpicked, betterOf, packed, unpacked, rowsAdded, added, sideCost, sideRoot, RootOf, Kept, Buildable, MendableAt, seen, Searched}
 use Rattle.mending.specs.declared.parts.Side.{Side}
 use Rattle.mending.specs.declared.rooting.Pick.{Pick}
 use Rattle.mending.proofs.Places.{plan-end, plan-span}

@@ -6,10 +6,10 @@ use Prim.Native.Nat.{ℕ, _+_, _*_, _-_, _≤_, _<_}
 use native.Mathlib.Omega.{arith}
 use lib.ListN.{length, getD, set, length-set}
 use lib.Seq.{getD-set-same, getD-set-other}
-use lib.Dec.{eqb, ltb}
+use lib.Dec.{eqb}
 use lib.Bits.{bitAnd, bitOr, and-le-l, or-lt}
 use borrow.Author.Tests.{eqb-true, eqb-false, lt-ltb, le-ltb}
-use Rattle.semantics.specs.Lists.{any, all, filter}
+use Rattle.semantics.specs.Lists.{all, filter}
 use Rattle.semantics.specs.Files.{hasBit}
 use Rattle.semantics.specs.Plans.{Plan, scan, join, tables}
 use Rattle.semantics.specs.Shapes.{attributes, holds, shared, joinAttributes}
@@ -17,7 +17,7 @@ use Rattle.semantics.specs.Mending.{holdsAll}
 use Rattle.semantics.proofs.Cases.{cases}
 use Rattle.semantics.proofs.Lists.{any-append}
 use Rattle.words.proofs.Masks.{hasBit-and, hasBit-or, covers}
-use Rattle.mending.specs.Places.{PlanAt, Planned}
+use Rattle.mending.specs.Places.{PlanAt}
 use Rattle.mending.specs.Parts.{shapeIn, Words, Parted, partIn, Surveyed, JoinIn, sidePlan, choose, KeyOf, Sided, SplitOf}
 use Rattle.mending.specs.Hanging.{holdsKey}
 use Rattle.mending.specs.declared.parts.Part.{Part}

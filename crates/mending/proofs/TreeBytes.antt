@@ -1,19 +1,17 @@
 -- The bytes of a tree: those of the side with the root, with the other side's tree hung in them.
 use mathlib.Core.Path.{_≡_, refl, sym, ap, _∙_, fun-ext}
-use mathlib.Core.Bool.{Bool, true, false}
 use mathlib.Core.List.{List, [], _∷_}
 use Prim.Native.Nat.{ℕ, _+_, _-_, _≤_, _<_}
 use native.Mathlib.Omega.{arith}
 use lib.ListN.{length, getD, set, take}
 use lib.Seq.{length-take-le}
-use lib.Dec.{ltb}
 use Rattle.semantics.specs.Lists.{any, filter}
 use Rattle.semantics.specs.Plans.{Plan, scan, join, encode, tables, Small}
 use Rattle.semantics.specs.Shapes.{joinAttributes, WellBehaved}
 use Rattle.semantics.specs.Enumeration.{headOf}
 use Rattle.semantics.specs.JoinTrees.{hangUnder}
 use Rattle.semantics.specs.Mending.{holdsAll, holders, topmost, hang, treeFor}
-use Rattle.semantics.proofs.JoinTrees.{permutation-any, permutation-each}
+use Rattle.semantics.proofs.Permutations.{permutation-any, permutation-each}
 use Rattle.semantics.proofs.Mending.{treeFor-tables, treeFor-wellBehaved}
 use Rattle.semantics.proofs.Mendable.{small-each, each-small}
 use Rattle.semantics.proofs.Topmost.{topmost-first, joinAttributes-below}

@@ -1,12 +1,10 @@
 -- A join that can be mended, taken apart for a root: what its two sides come to.
 use mathlib.Core.Path.{_≡_, refl, sym, ap, ap₂, _∙_}
-use mathlib.Core.Bool.{Bool, true, false}
+use mathlib.Core.Bool.{true, false}
 use mathlib.Core.List.{List}
 use Prim.Native.Nat.{ℕ, _+_, _≤_, _<_}
 use native.Mathlib.Omega.{arith}
-use native.Mathlib.Nat.{add-zero}
 use lib.ListN.{length, getD}
-use lib.Dec.{ltb}
 use borrow.Author.Tests.{ltb-true, ltb-false}
 use Rattle.semantics.specs.Lists.{any}
 use Rattle.semantics.specs.Plans.{Plan, scan, join, tables}
@@ -15,7 +13,7 @@ use Rattle.semantics.specs.JoinTrees.{namesTable}
 use Rattle.semantics.specs.Mending.{holdsAll, holders, hang, cost, treeFor, Mendable, rightRoot, leftRoot}
 use Rattle.semantics.proofs.Cases.{cases}
 use Rattle.semantics.proofs.Lists.{nonEmpty-filter}
-use Rattle.semantics.proofs.Mending.{not-left, treeFor-left, treeFor-right, cost-left, cost-right, left-holds, right-holds, rightRoot-holder, leftRoot-holder}
+use Rattle.semantics.proofs.Mending.{treeFor-left, treeFor-right, cost-left, cost-right, left-holds, right-holds, rightRoot-holder, leftRoot-holder}
 use Rattle.mending.specs.Places.{PlanAt, Planned}
 use Rattle.mending.specs.Parts.{shapeIn, JoinIn, sidePlan, SplitOf}
 use Rattle.mending.specs.Hanging.{holdsKey}

@@ -11,14 +11,13 @@ use lib.Dec.{ltb}
 use borrow.Author.Tests.{lt-ltb, le-ltb}
 use Rattle.semantics.specs.Lists.{filter, nonEmpty}
 use Rattle.semantics.specs.Plans.{Plan, encode, tables}
-use Rattle.semantics.specs.JoinTrees.{namesTable}
 use Rattle.semantics.specs.Mending.{cheapest, cost, mendedRoot, treeFor, mend, unmendable}
 use Rattle.semantics.proofs.Lists.{filter-append}
 use Rattle.semantics.proofs.Mending.{tables-nonEmpty, mendedRoot-named}
 use Rattle.semantics.proofs.Mendable.{unmendable-mendable}
 use Rattle.mending.specs.Places.{PlanAt, Planned}
 use Rattle.mending.specs.Parts.{shapeIn, Spanned, Surveyed, slotOf}
-use Rattle.mending.specs.Rooting.{unpicked, betterOf, Kept, Ground, Buildable, seen, Picked}
+use Rattle.mending.specs.Rooting.{unpicked, betterOf, Kept, Ground, Buildable, seen}
 use Rattle.mending.specs.Writing.{Spelt}
 use Rattle.mending.specs.Whole.{Whole, Sent, RootOfWhole, WholeSearched, Mends}
 use Rattle.mending.specs.Lacking.{foundOf}

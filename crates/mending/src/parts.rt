@@ -1,6 +1,6 @@
 // The parts of a plan: the plans inside it, surveyed once; the sides of a join; a join taken apart for a root.
 ghost use mathlib.Core.Path.{_≡_};
-ghost use Prim.Native.Nat.{ℕ, _+_, _<_, _≤_};
+ghost use Prim.Native.Nat.{ℕ, _+_, _<_};
 ghost use lib.ListN.{length, getD};
 ghost use Rattle.semantics.specs.Plans.{Plan};
 ghost use Rattle.mending.specs.Places.{PlanAt, Planned};

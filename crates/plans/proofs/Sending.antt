@@ -1,22 +1,22 @@
 -- Mending as the plan record's answers ask for it: what it rests on follows from answers 7 and 8, and what it gives is answer 9 or the
 -- plan that the join follows.
 use mathlib.Core.Path.{_≡_, refl, sym, ap, ap₂, _∙_, fun-ext}
-use mathlib.Core.Bool.{Bool, true, false, not}
+use mathlib.Core.Bool.{Bool, true, not}
 use mathlib.Core.List.{List, [], _∷_}
 use mathlib.Core.Option.{none, some}
 use Prim.Native.Nat.{ℕ, zero, suc, _+_, _*_, _≤_, _<_, _^_}
 use native.Mathlib.Omega.{arith}
 use lib.ListN.{length, getD, take, length-append}
 use lib.Dec.{eqb, ltb}
-use borrow.Author.Tests.{eqb-true, eqb-false, eq-eqb, ne-eqb, ltb-true, ltb-false}
-use Rattle.semantics.specs.Lists.{sum, filter, from}
+use borrow.Author.Tests.{eqb-true, eq-eqb, ne-eqb, ltb-true, ltb-false}
+use Rattle.semantics.specs.Lists.{filter, from}
 use Rattle.semantics.specs.Files.{Table, hasBit}
 use Rattle.semantics.specs.Plans.{Plan, scan, join, encode, tables, Small, misplaced, planOf, misnamed}
 use Rattle.semantics.specs.Shapes.{noTable, shapeOf}
 use Rattle.semantics.specs.Details.{Once}
 use Rattle.semantics.specs.Mending.{mend, unmendable}
-use Rattle.semantics.specs.Outcome.{refused, admitted, planVerdict, scratchVerdict, WithinRules}
-use Rattle.semantics.proofs.Cases.{cases, option-cases}
+use Rattle.semantics.specs.Outcome.{refused, admitted, planVerdict, scratchVerdict}
+use Rattle.semantics.proofs.Cases.{cases}
 use Rattle.semantics.proofs.Lists.{sum-one}
 use Rattle.semantics.proofs.Numbers.{length-from}
 use Rattle.semantics.proofs.Spelling.{planOf-encode, spelled-out}
@@ -38,7 +38,7 @@ use Rattle.plans.specs.declared.schedule.Schedule.{Schedule}
 use Rattle.plans.specs.declared.admission.Verdict.the-variants as decision
 use Rattle.plans.specs.declared.admission.Admission.{Admission}
 use Rattle.plans.specs.Schedules.{noSchedule}
-use Rattle.plans.specs.Admissions.{Tabled, Named, Mendables, Follows, Accepted, admissionBy, followedAdmission, planAdmission}
+use Rattle.plans.specs.Admissions.{Tabled, Named, Mendables, Follows, admissionBy, followedAdmission, planAdmission}
 use Rattle.plans.proofs.Admitting.{each-at, mask-at, rows-at, masks-are, rows-are}
 use Rattle.plans.proofs.Scratch.{refused-admission}
 

@@ -2,7 +2,7 @@
 // rest of the join works on. No attribute value is read here.
 ghost use mathlib.Core.Path.{_≡_};
 ghost use mathlib.Core.List.{List};
-ghost use Prim.Native.Nat.{ℕ, _+_, _<_, _≤_};
+ghost use Prim.Native.Nat.{_<_};
 ghost use Rattle.semantics.specs.Files.{Table};
 ghost use Rattle.plans.specs.Admissions.{Tabled, Catalogued, checkOf, Mendables, Accepted, refusalOf, admissionIn, admissionOf};
 ghost use Rattle.plans.specs.Admissions.{FollowedBy, MendedBy, RuledBy};

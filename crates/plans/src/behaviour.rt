@@ -1,6 +1,6 @@
 // Well-behaved plans: at every join the two leftmost tables have all join attributes. Such a plan need not be mended.
 ghost use mathlib.Core.Path.{_≡_};
-ghost use Prim.Native.Nat.{ℕ, _+_, _<_, _≤_};
+ghost use Prim.Native.Nat.{ℕ, _+_};
 ghost use lib.ListN.{length};
 ghost use Rattle.semantics.specs.Plans.{Plan};
 ghost use Rattle.semantics.specs.Shapes.{Shape};

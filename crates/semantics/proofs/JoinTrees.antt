@@ -1,51 +1,22 @@
 -- Join trees: what is hung where keeps the plan well-behaved; plans and trees are one to one.
 use mathlib.Core.Path.{_≡_, refl, sym, ap, ap₂, _∙_}
-use mathlib.Core.Bool.{Bool, true, false, _&&_, _||_, not, or-comm}
+use mathlib.Core.Bool.{Bool, true, false, _&&_, _||_, not}
 use mathlib.Core.List.{List, [], _∷_, _++_, append-assoc}
-use Prim.Native.Nat.{ℕ, _+_, _*_, _≤_, _<_, zero-le}
-use native.Mathlib.Omega.{arith}
-use native.Mathlib.Nat.{mul-comm}
-use lib.Dec.{eqb, ltb}
+use Prim.Native.Nat.{ℕ, _+_, _≤_, _<_, zero-le}
+use lib.Dec.{eqb}
 use borrow.Author.Tests.{eqb-true, eq-eqb}
-use Rattle.semantics.specs.Lists.{Each, any, sum, product, from, upTo, Permutation, unchanged, exchanged, beside, after}
+use Rattle.semantics.specs.Lists.{any, from, upTo, Permutation, unchanged, beside, after}
 use Rattle.semantics.specs.Plans.{Plan, scan, join, tables, leftmost}
 use Rattle.semantics.specs.Shapes.{Shape, attributes, holds, shared, joinAttributes, behaves, WellBehaved}
-use Rattle.semantics.proofs.Cases.{cases, and-left, and-right}
-use Rattle.semantics.proofs.Lists.{Each-append, Each-split, Each-map, all-true, true-all, all-filter, any-append, sum-append, product-append}
+use Rattle.semantics.proofs.Cases.{cases, and-left, and-right, or-cases, or-left, or-right}
+use Rattle.semantics.proofs.Permutations.{permutation-any, last-two}
+use Rattle.semantics.proofs.Lists.{Each-map, all-true, true-all, all-filter, any-append}
 use Rattle.semantics.proofs.Numbers.{from-at, from-lt}
 use Rattle.semantics.specs.JoinTrees.{namesTable, hangUnder, JoinTree, node, Children, childless, child, planOfTree, inTurn, childLast, hungLast, treeOf}
 
 -- the attributes found both in p and in c are all in the tables x and y
 abbrev pub Within : Shape → Plan → Plan → ℕ → ℕ → Type 0
 Within S p c x y = (a : ℕ) → a < 32 → holds S p a ≡ true → holds S c a ≡ true → (S .has x a ≡ true) × (S .has y a ≡ true)
-
--- ---- tables in another order
-pub permutation-sum : (f : ℕ → ℕ) {xs ys : List ℕ} → Permutation xs ys → sum f xs ≡ sum f ys
-permutation-sum f unchanged = refl
-permutation-sum f (exchanged xs ys) = omega (arith, sum-append f xs ys, sum-append f ys xs)
-permutation-sum f (beside {xs} {ys} {zs} {ws} p q) = omega (arith, sum-append f xs zs, sum-append f ys ws, permutation-sum f p, permutation-sum f q)
-permutation-sum f (after p q) = permutation-sum f p ∙ permutation-sum f q
-
-pub permutation-product : (f : ℕ → ℕ) {xs ys : List ℕ} → Permutation xs ys → product f xs ≡ product f ys
-permutation-product f unchanged = refl
-permutation-product f (exchanged xs ys) = product-append f xs ys ∙ mul-comm (product f xs) (product f ys) ∙ sym (product-append f ys xs)
-permutation-product f (beside {xs} {ys} {zs} {ws} p q) = product-append f xs zs ∙ ap₂ (λ a b. a * b) (permutation-product f p) (permutation-product f q) ∙ sym (product-append f ys ws)
-permutation-product f (after p q) = permutation-product f p ∙ permutation-product f q
-
-pub permutation-any : (t : ℕ → Bool) {xs ys : List ℕ} → Permutation xs ys → any t xs ≡ any t ys
-permutation-any t unchanged = refl
-permutation-any t (exchanged xs ys) = any-append t xs ys ∙ or-comm (any t xs) (any t ys) ∙ sym (any-append t ys xs)
-permutation-any t (beside {xs} {ys} {zs} {ws} p q) = any-append t xs zs ∙ ap₂ (λ a b. a || b) (permutation-any t p) (permutation-any t q) ∙ sym (any-append t ys ws)
-permutation-any t (after p q) = permutation-any t p ∙ permutation-any t q
-
-pub permutation-each : (P : ℕ → Type 0) {xs ys : List ℕ} → Permutation xs ys → Each P ys → Each P xs
-permutation-each P unchanged e = e
-permutation-each P (exchanged xs ys) e = let (a, b) = Each-split P ys xs e in Each-append P xs ys b a
-permutation-each P (beside {xs} {ys} {zs} {ws} p q) e = let (a, b) = Each-split P ys ws e in Each-append P xs zs (permutation-each P p a) (permutation-each P q b)
-permutation-each P (after p q) e = permutation-each P p (permutation-each P q e)
-
-last-two : (xs ys zs : List ℕ) → Permutation ((xs ++ ys) ++ zs) ((xs ++ zs) ++ ys)
-last-two xs ys zs = rw (append-assoc xs ys zs, append-assoc xs zs ys) (beside (unchanged {xs = xs}) (exchanged ys zs))
 
 -- ---- hanging
 -- under the root, in the left tree or in the right one
@@ -63,17 +34,6 @@ hang-tables x c (join a b) =
     hang-cases (λ q. Permutation (tables q) ((tables a ++ tables b) ++ tables c)) x c a b (λ h. unchanged)
     (λ g. after (beside (hang-tables x c a) unchanged) (last-two (tables a) (tables c) (tables b)))
     (λ g. rw (append-assoc (tables a) (tables b) (tables c)) (beside (unchanged {xs = tables a}) (hang-tables x c b)))
-
-pub or-cases : {P : Type 0} (a b : Bool) → (a || b) ≡ true → (a ≡ true → P) → (b ≡ true → P) → P
-or-cases true b e f g = f refl
-or-cases false b e f g = g e
-
-pub or-left : (a b : Bool) → a ≡ true → (a || b) ≡ true
-or-left a b e = rw e
-
-pub or-right : (a b : Bool) → b ≡ true → (a || b) ≡ true
-or-right true b e = refl
-or-right false b e = e
 
 -- what is named has what passes
 pub named-any : (q : ℕ → Bool) (x : ℕ) (ts : List ℕ) → any (eqb x) ts ≡ true → q x ≡ true → any q ts ≡ true

@@ -13,6 +13,7 @@ pub mod Steps
 pub mod Bound
 pub mod Spelling
 pub mod Misplaced
+pub mod Permutations
 pub mod JoinTrees
 pub mod Mending
 pub mod Mendable

@@ -5,16 +5,17 @@ use mathlib.Core.List.{List, [], _∷_, map}
 use Prim.Native.Nat.{ℕ}
 use native.Mathlib.Omega.{arith}
 use lib.ListN.{length}
-use Rattle.semantics.specs.Lists.{oneIf, Each, all, any, filter, several, same, Permutation}
+use Rattle.semantics.specs.Lists.{oneIf, Each, all, any, filter, same, Permutation}
 use Rattle.semantics.specs.Plans.{Plan, tables}
 use Rattle.semantics.specs.Shapes.{attributes}
 use Rattle.semantics.specs.Results.{Base, recorded, results, tuple}
 use Rattle.semantics.specs.Bags.{repeats, tupleOf, sharedRecorded, multiplicity, times}
-use Rattle.semantics.proofs.Cases.{cases}
+use Rattle.semantics.proofs.Cases.{cases, or-cases}
 use Rattle.semantics.proofs.Lists.{same-true, any-map, nonEmpty-filter, empty-nil, length-filter-sum, several-alike}
 use Rattle.semantics.proofs.Bags.{bag-meaning, valuesOf, tuple-of-values}
 use Rattle.semantics.specs.Mending.{mend}
-use Rattle.semantics.proofs.JoinTrees.{permutation-sum, permutation-product, holds-permutation, or-cases}
+use Rattle.semantics.proofs.Permutations.{permutation-sum, permutation-product}
+use Rattle.semantics.proofs.JoinTrees.{holds-permutation}
 use Rattle.semantics.proofs.Mending.{mend-tables}
 
 -- an element that passes the test

@@ -12,12 +12,13 @@ use Rattle.semantics.specs.Lists.{oneIf, Each, any, all, sum, filter, no
 use Rattle.semantics.specs.Plans.{Plan, scan, join, tables, leftmost}
 use Rattle.semantics.specs.Shapes.{Shape, attributes, holds, shared, joinAttributes, behaves, WellBehaved, overJoins}
 use Rattle.semantics.specs.Details.{Once}
-use Rattle.semantics.proofs.Cases.{cases, and-left, and-right, true-false}
+use Rattle.semantics.proofs.Cases.{cases, and-left, and-right, true-false, or-cases, or-left, or-right}
 use Rattle.semantics.proofs.Lists.{Each-map, Each-with, Each-filter, each, filter-passes, all-true, all-filter, any-append, filter-append, length-filter-sum, all-and, nonEmpty-append, nonEmpty-filter}
 use Rattle.semantics.proofs.Numbers.{from-at}
 use Rattle.semantics.specs.JoinTrees.{namesTable, depth, hangUnder}
 use Rattle.semantics.specs.Mending.{firstLeast, cheapest, holdsAll, holders, topmost, hang, chosen, cost, rightRoot, leftRoot, treeFor, mendedRoot, mend, penalty, Selection, only, rootLeft, rootRight, selectionPenalty, selectionTree, bothHold, Mendable}
-use Rattle.semantics.proofs.JoinTrees.{permutation-sum, permutation-any, permutation-each, hang-leftmost, hang-tables, or-cases, or-left, or-right, names-leftmost, holds-permutation, hang-wellBehaved}
+use Rattle.semantics.proofs.Permutations.{permutation-sum, permutation-any, permutation-each}
+use Rattle.semantics.proofs.JoinTrees.{hang-leftmost, hang-tables, names-leftmost, holds-permutation, hang-wellBehaved}
 
 -- ---- the cheapest
 firstLeast-each : (P : ℕ → Type 0) (f : ℕ → ℕ) (x : ℕ) (ys : List ℕ) → P x → Each P ys → P (firstLeast f x ys)

@@ -7,14 +7,14 @@ use Prim.Native.Nat.{ℕ, _≤_}
 use native.Mathlib.Omega.{arith}
 use lib.ListN.{length}
 use Rattle.semantics.specs.Files.{Table, fault, planBytes, read}
-use Rattle.semantics.specs.Plans.{Plan, encode, tables, Small, misplaced, planOf, misnamed}
+use Rattle.semantics.specs.Plans.{Plan, tables, misplaced, planOf, misnamed}
 use Rattle.semantics.specs.Shapes.{shapeOf}
 use Rattle.semantics.specs.Mending.{mend, Mendable, unmendable}
 use Rattle.semantics.specs.Details.{SpellsPlan, FirstMisplaced, NamedOnce, FirstMisnamed, FirstLacking, ReadsPlan}
 use Rattle.semantics.specs.Outcome.{Verdict, refused, admitted, planVerdict, readVerdict, rulesVerdict}
 use Rattle.semantics.proofs.Cases.{option-cases}
 use Rattle.semantics.proofs.Reading.{ending-cases, fault-number}
-use Rattle.semantics.proofs.Spelling.{planOf-encode, spelled-out}
+use Rattle.semantics.proofs.Spelling.{planOf-encode}
 use Rattle.semantics.proofs.Misplaced.{spelled-exactly, first-misplaced}
 use Rattle.semantics.proofs.Misnamed.{plan-named-exactly, first-misnamed}
 use Rattle.semantics.proofs.Lacking.{mendable-exactly, first-lacking}

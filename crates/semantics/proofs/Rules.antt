@@ -12,7 +12,7 @@ use Rattle.semantics.specs.Lists.{oneIf, any, sum, filter, from}
 use Rattle.semantics.specs.Files.{Table, hasBit, Reading, fault, planBytes, read}
 use Rattle.semantics.specs.Plans.{Plan, tables, misplaced, planOf, misnamed}
 use Rattle.semantics.specs.Shapes.{noTable, shapeOf, holds, rowsIn, scratchNeed}
-use Rattle.semantics.specs.Mending.{mend, unmendable}
+use Rattle.semantics.specs.Mending.{unmendable}
 use Rattle.semantics.specs.Outcome.{Verdict, refused, admitted, planVerdict, readVerdict, rulesVerdict, scratchVerdict, verdict, WithinRules}
 use Rattle.semantics.proofs.Cases.{cases, option-cases}
 use Rattle.semantics.proofs.Lists.{sum-one, any-sum, length-filter-sum}

@@ -12,12 +12,12 @@ use Rattle.semantics.specs.Lists.{Each, filter, nonEmpty, from, upTo}
 use Rattle.semantics.specs.Plans.{Plan, scan, join, tables, leftmost}
 use Rattle.semantics.specs.Shapes.{Shape, attributes, shared, joinAttributes, behaves, WellBehaved}
 use Rattle.semantics.specs.Enumeration.{headOf}
-use Rattle.semantics.proofs.Cases.{cases, true-false}
+use Rattle.semantics.proofs.Cases.{cases, true-false, or-cases}
 use Rattle.semantics.proofs.Lists.{Each-map, Each-with, Each-filter, filter-append, filter-passes, nonEmpty-filter, empty-nil, all-true, true-all}
 use Rattle.semantics.proofs.Numbers.{from-lt}
 use Rattle.semantics.specs.JoinTrees.{namesTable, depth}
 use Rattle.semantics.specs.Mending.{cheapest, holdsAll, holders, topmost}
-use Rattle.semantics.proofs.JoinTrees.{or-cases, named-any, holds-named, behaves-within}
+use Rattle.semantics.proofs.JoinTrees.{named-any, holds-named, behaves-within}
 use Rattle.semantics.proofs.Mending.{cheapest-first, each-named, not-left, tables-first, depth-leftmost}
 
 head-each : (P : ℕ → Type 0) (xs : List ℕ) → nonEmpty xs ≡ true → Each P xs → P (headOf xs)

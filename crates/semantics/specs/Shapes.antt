@@ -1,8 +1,8 @@
 -- What a plan says of the tables' masks and row counts alone: join attributes, well-behaved plans, the scratch needed (answer
 -- 10) and the width of the output. Nothing here can see an attribute value.
 use mathlib.Core.Path.{_≡_}
-use mathlib.Core.Bool.{Bool, true, false, _&&_}
-use mathlib.Core.List.{List, [], _∷_, _++_}
+use mathlib.Core.Bool.{Bool, true, _&&_}
+use mathlib.Core.List.{List}
 use mathlib.Core.Option.{Option, none, some}
 use Prim.Native.Nat.{ℕ, _+_, _*_, _/_, min, max}
 use lib.ListN.{length, getD}

@@ -1,7 +1,6 @@
 use Rattle.mending.proofs.Hangs.{planned-there, end-inside, assembled, hung-bytes}
 use lib.ListN.{length-set}
 use native.Mathlib.Omega.{arith}
-use mathlib.Core.Path.{_≡_}
 use borrow.Author.Needs.{needs}
 use Rattle.mending.proofs.hanging.hang.Statement.{statement}
 use Rattle.mending.proofs.hanging.hang.Tie as tie

@@ -3,7 +3,7 @@ use lib.ListN.{length}
 use mathlib.Core.Path.{_∙_}
 use borrow.Author.Needs.{needs}
 use native.Mathlib.Omega.{arith}
-use Rattle.mending.proofs.Places.{starts, no-other, left, right}
+use Rattle.mending.proofs.Places.{starts, left, right}
 use Rattle.mending.proofs.Bytes.{planned-join}
 use Rattle.mending.proofs.Sides.{surveyed-bounds}
 use Rattle.mending.proofs.Lacks.{lacks-here, lacks-inside, table-lacks}

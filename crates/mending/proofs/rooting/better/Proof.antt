@@ -1,5 +1,3 @@
-use borrow.Author.Needs.{needs}
-use native.Mathlib.Omega.{arith}
 use Rattle.mending.proofs.Picks.{better-taken, better-left}
 use Rattle.mending.proofs.rooting.better.Statement.{statement}
 use Rattle.mending.proofs.rooting.better.Tie as tie
