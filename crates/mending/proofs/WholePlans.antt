@@ -17,7 +17,7 @@ use Rattle.semantics.proofs.Mending.{tables-nonEmpty, mendedRoot-named}
 use Rattle.semantics.proofs.Mendable.{unmendable-mendable}
 use Rattle.mending.specs.Places.{PlanAt, Planned}
 use Rattle.mending.specs.Parts.{shapeIn, Spanned, Surveyed, slotOf}
-use Rattle.mending.specs.Rooting.{unpicked, betterOf, Kept, Ground, Buildable, seen}
+use Rattle.mending.specs.Rooting.{unpicked, betterOf, Kept, Given, Buildable, seen}
 use Rattle.mending.specs.Writing.{Spelt}
 use Rattle.mending.specs.Whole.{Whole, Sent, RootOfWhole, WholeSearched, Mends}
 use Rattle.mending.specs.Lacking.{foundOf}
@@ -84,8 +84,8 @@ module _ (s masks rows : List ℕ) where
   pub sent-planned : Sent s masks rows → Planned s 0
   sent-planned m = record { plan = m .plan; end = length s; stands = m .stands }
 
-  pub sent-ground : (ends sets : List ℕ) → Sent s masks rows → Surveyed s masks ends sets → Ground s masks rows ends sets
-  sent-ground ends sets m q = record { short = m .short; words = m .words; few = m .few; distinct = m .distinct; surveyed = q }
+  pub sent-given : (ends sets : List ℕ) → Sent s masks rows → Surveyed s masks ends sets → Given s masks rows ends sets
+  sent-given ends sets m q = record { short = m .short; words = m .words; few = m .few; distinct = m .distinct; surveyed = q }
 
   -- where no join lacks a holder the plan can be mended
   pub sent-whole : (r : Found) → ((p : Plan) (e : ℕ) → PlanAt s 0 p e → r ≡ foundOf (unmendable (shapeIn masks rows) p 0)) → r ≡ found.Nothing → Sent s masks rows → Whole s masks rows

@@ -62,7 +62,7 @@ abbrev pub Distinct : List ℕ → Type 0
 Distinct s = (i j : ℕ) → i < length s → j < length s → getD s i 0 < 16 → getD s i 0 ≡ getD s j 0 → i ≡ j
 
 -- what the functions rest on: answers 4, 7 and 8 leave so much, and the plan is surveyed
-pub record Ground (s masks rows ends sets : List ℕ) : Type 0 where
+pub record Given (s masks rows ends sets : List ℕ) : Type 0 where
   pub short : length s ≤ 31
   pub words : Words masks
   pub few : (t : ℕ) → getD rows t 0 ≤ 4096
@@ -85,14 +85,14 @@ MendableAt s masks rows at = (l r : Plan) (m e : ℕ) → PlanAt s (at + 1) l m 
 
 -- what tree building for a root asks, and what it promises: the memory stays right, and r is the penalty
 abbrev pub TreeAsked : List ℕ → List ℕ → List ℕ → List ℕ → List ℕ → List ℕ → ℕ → ℕ → Type 0
-TreeAsked s masks rows ends sets best at place = Ground s masks rows ends sets × Kept s masks rows best × Buildable s masks rows at place
+TreeAsked s masks rows ends sets best at place = Given s masks rows ends sets × Kept s masks rows best × Buildable s masks rows at place
 
 abbrev pub TreeBuilt : List ℕ → List ℕ → List ℕ → List ℕ → ℕ → ℕ → ℕ → Type 0
 TreeBuilt s masks rows best at place r = Kept s masks rows best × ((p : Plan) (e : ℕ) → PlanAt s at p e → r ≡ cost (shapeIn masks rows) p (getD s place 0))
 
 -- what best-root search asks, and what it promises: the memory stays right, and the pick is the side's root with its cost
 abbrev pub RootAsked : List ℕ → List ℕ → List ℕ → List ℕ → List ℕ → List ℕ → ℕ → Type 0
-RootAsked s masks rows ends sets best at = Ground s masks rows ends sets × Kept s masks rows best × JoinIn s at × MendableAt s masks rows at
+RootAsked s masks rows ends sets best at = Given s masks rows ends sets × Kept s masks rows best × JoinIn s at × MendableAt s masks rows at
 
 abbrev pub RootFound : List ℕ → List ℕ → List ℕ → List ℕ → ℕ → Bool → Pick → Type 0
 RootFound s masks rows best at right pick =

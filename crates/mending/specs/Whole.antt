@@ -12,7 +12,7 @@ use Rattle.semantics.specs.Mending.{Mendable, cost, mendedRoot, mend, unmendabl
 use Rattle.mending.specs.Places.{PlanAt}
 use Rattle.mending.specs.Parts.{shapeIn, Words}
 use Rattle.mending.specs.Lacking.{foundOf}
-use Rattle.mending.specs.Rooting.{Kept, Distinct, Ground, seen, Picked}
+use Rattle.mending.specs.Rooting.{Kept, Distinct, Given, seen, Picked}
 use Rattle.mending.specs.declared.lacking.Found.{Found}
 use Rattle.mending.specs.declared.rooting.Pick.{Pick}
 
@@ -54,7 +54,7 @@ WholeSearched s masks rows n pick = (p : Plan) → PlanAt s 0 p (length s) → P
 
 -- what the search asks, and what it promises: the memory stays right, and the place is the root's
 abbrev pub WholeAsked : List ℕ → List ℕ → List ℕ → List ℕ → List ℕ → List ℕ → Type 0
-WholeAsked s masks rows ends sets best = Ground s masks rows ends sets × Kept s masks rows best × Whole s masks rows
+WholeAsked s masks rows ends sets best = Given s masks rows ends sets × Kept s masks rows best × Whole s masks rows
 
 abbrev pub WholeFound : List ℕ → List ℕ → List ℕ → List ℕ → ℕ → Type 0
 WholeFound s masks rows best place = Kept s masks rows best × RootOfWhole s masks rows place

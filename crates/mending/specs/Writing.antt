@@ -7,7 +7,7 @@ use Rattle.semantics.specs.Plans.{Plan, encode}
 use Rattle.semantics.specs.Mending.{treeFor}
 use Rattle.mending.specs.Places.{PlanAt}
 use Rattle.mending.specs.Parts.{shapeIn}
-use Rattle.mending.specs.Rooting.{Kept, Ground, Buildable}
+use Rattle.mending.specs.Rooting.{Kept, Given, Buildable}
 
 -- they are those of the tree, of the plan at an index, for the root whose byte stands at the place
 abbrev pub Spelt : List ℕ → List ℕ → List ℕ → ℕ → ℕ → List ℕ → Type 0
@@ -16,7 +16,7 @@ Spelt s masks rows at place out = (p : Plan) (e : ℕ) → PlanAt s at p e → t
 -- what writing a tree asks, and what it promises: the memory stays right, and the buffer begins with the tree's bytes
 abbrev pub WriteAsked : List ℕ → List ℕ → List ℕ → List ℕ → List ℕ → List ℕ → List ℕ → ℕ → ℕ → Type 0
 WriteAsked s masks rows ends sets best out at place =
-    Ground s masks rows ends sets × Kept s masks rows best × Buildable s masks rows at place × (length out ≡ 31)
+    Given s masks rows ends sets × Kept s masks rows best × Buildable s masks rows at place × (length out ≡ 31)
 
 abbrev pub Written : List ℕ → List ℕ → List ℕ → List ℕ → List ℕ → ℕ → ℕ → Type 0
 Written s masks rows best out at place = Kept s masks rows best × (length out ≡ 31) × Spelt s masks rows at place out

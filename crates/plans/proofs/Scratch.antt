@@ -23,7 +23,7 @@ use Rattle.plans.specs.declared.admission.Check.the-variants as check
 use Rattle.plans.specs.declared.admission.Admission.{Admission}
 use Rattle.mending.specs.Places.{PlanAt}
 use Rattle.plans.specs.Schedules.{storage, scheduleWith, scheduleOf, noSchedule, Plannable}
-use Rattle.plans.specs.Admissions.{Tabled, Catalogued, checkOf, Named, Mendables, Follows, Accepted, admissionBy, followedAdmission, planAdmission}
+use Rattle.plans.specs.Admissions.{Tabled, Catalogued, checkOf, Named, NamedFor, Follows, Accepted, admissionBy, followedAdmission, planAdmission}
 use Rattle.mending.proofs.Places.{spelled-stands}
 use Rattle.plans.proofs.Scheduling.{tables-some}
 use Rattle.plans.proofs.Whole.{leftmost-small, joins-tables, storage-le, storage-need}
@@ -123,8 +123,8 @@ module _ (c : Catalog) (code : List ℕ) (r : Check) (checked : (ts : List Table
   pub named : r ≡ check.IllBehaved → (ts : List Table) → Tabled c ts → Named code ts
   named e ts h = (check-ill ts code (sym e ∙ checked ts h)) .named
 
-  pub mendables : r ≡ check.IllBehaved → Catalogued c → Mendables code c
-  mendables e q = record { ts = q .ts; tabled = q .tabled; named = named e (q .ts) (q .tabled) }
+  pub named-for : r ≡ check.IllBehaved → Catalogued c → NamedFor code c
+  named-for e q = record { ts = q .ts; tabled = q .tabled; named = named e (q .ts) (q .tabled) }
 
   pub plan-refused : (n d words : ℕ) → r ≡ check.Refused n d → (free : Schedule) → free ≡ noSchedule → (ts : List Table) → Tabled c ts
       → record { verdict = decision.Refused n d; catalog = c; schedule = free } ≡ planAdmission ts code words

@@ -38,7 +38,7 @@ use Rattle.plans.specs.declared.schedule.Schedule.{Schedule}
 use Rattle.plans.specs.declared.admission.Verdict.the-variants as decision
 use Rattle.plans.specs.declared.admission.Admission.{Admission}
 use Rattle.plans.specs.Schedules.{noSchedule}
-use Rattle.plans.specs.Admissions.{Tabled, Named, Mendables, Follows, admissionBy, followedAdmission, planAdmission}
+use Rattle.plans.specs.Admissions.{Tabled, Named, NamedFor, Follows, admissionBy, followedAdmission, planAdmission}
 use Rattle.plans.proofs.Admitting.{each-at, mask-at, rows-at, masks-are, rows-are}
 use Rattle.plans.proofs.Scratch.{refused-admission}
 
@@ -157,5 +157,5 @@ module _ (c : Catalog) (ts : List Table) (h : Tabled c ts) where
         mended-admission words a q = q ∙ ap (λ p. admissionBy ts (scratchVerdict words (admitted ts p))) plan-is ∙ ap (λ v. admissionBy ts (scratchVerdict words v)) (sym admitted-is)
 
 -- ---- for the caller, who knows of some tables that they are the catalog's
-pub sent-of : (c : Catalog) (code : List ℕ) → Mendables code c → Sent code (c .masks) (c .rows)
+pub sent-of : (c : Catalog) (code : List ℕ) → NamedFor code c → Sent code (c .masks) (c .rows)
 sent-of c code q = sent c (q .ts) (q .tabled) code (q .named)

@@ -51,7 +51,8 @@ pub record Named (code : List ℕ) (ts : List Table) : Type 0 where
   pub spelled : misplaced 1 0 code ≡ none
   pub named : misnamed (length ts) [] 0 code ≡ none
 
-pub record Mendables (code : List ℕ) (c : Catalog) : Type 0 where
+-- so it is of some tables that the catalog holds
+pub record NamedFor (code : List ℕ) (c : Catalog) : Type 0 where
   pub ts : List Table
   pub tabled : Tabled c ts
   pub named : Named code ts

@@ -4,7 +4,7 @@ ghost use mathlib.Core.Path.{_≡_};
 ghost use mathlib.Core.List.{List};
 ghost use Prim.Native.Nat.{_<_};
 ghost use Rattle.semantics.specs.Files.{Table};
-ghost use Rattle.plans.specs.Admissions.{Tabled, Catalogued, checkOf, Mendables, Accepted, refusalOf, admissionIn, admissionOf};
+ghost use Rattle.plans.specs.Admissions.{Tabled, Catalogued, checkOf, NamedFor, Accepted, refusalOf, admissionIn, admissionOf};
 ghost use Rattle.plans.specs.Admissions.{FollowedBy, MendedBy, RuledBy};
 ghost use Rattle.plans.specs.Schedules.{Blank};
 ghost use Rattle.tables.specs.Catalogs.{contentsOf};
@@ -119,7 +119,7 @@ fn with_mended(
     keys: &mut [u32; 16],
     lists: &mut [[usize; 16]; 8],
 ) -> Ruling
-    requires { ⌜ Mendables (now code) catalog × Blank (now keys) (now lists) ⌝ }
+    requires { ⌜ NamedFor (now code) catalog × Blank (now keys) (now lists) ⌝ }
     ensures { λ r. ⌜ MendedBy catalog (now (code .entry)) words r (now (keys .exit)) (now (lists .exit)) ⌝ }
 {
     let masks = catalog.masks;

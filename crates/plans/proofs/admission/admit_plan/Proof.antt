@@ -1,5 +1,5 @@
 use Rattle.plans.proofs.Whole.{nothing-is}
-use Rattle.plans.proofs.Scratch.{follows, accepted, as-sent, named, mendables, plan-refused}
+use Rattle.plans.proofs.Scratch.{follows, accepted, as-sent, named, named-for, plan-refused}
 use borrow.Author.Needs.{needs}
 use Rattle.plans.proofs.admission.admit_plan.Statement.{statement}
 use Rattle.plans.proofs.admission.admit_plan.Tie as tie
@@ -29,7 +29,7 @@ enum-told-2 : tie.Need-enum-told-2
 enum-told-2 c = search needs
 
 with-mended-requires : tie.Need-with-mended-requires
-with-mended-requires c κs = (mendables _ _ _ (c .before .before .before .before .check-plan .ensures) (c .before .before .enum-told2 .given .1) (c .before .before .before .before .before .before .pre .0), c .before .before .before .before .before .before .pre .1)
+with-mended-requires c κs = (named-for _ _ _ (c .before .before .before .before .check-plan .ensures) (c .before .before .enum-told2 .given .1) (c .before .before .before .before .before .before .pre .0), c .before .before .before .before .before .before .pre .1)
 
 returns : tie.Need-returns
 returns c = λ ts h. rw (c .refusal .ensures) (plan-refused _ _ _ (c .before .before .before .before .check-plan .ensures) _ _ _ (c .before .before .check .given .1) _ (nothing-is _ _ (c .before .before .before .before .before .before .pre .1)) ts h)
