@@ -27,7 +27,7 @@ class Records(NamedTuple):
     numbers by number."""
 
     data: bytes
-    count: int
+    tables_there: int
     names: Names
     keys: Dict[int, Key]
 
