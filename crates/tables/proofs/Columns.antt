@@ -26,6 +26,12 @@ column-inside size m n start a k (h, f) e =
     let shorter : k * n ≤ arity m * n = mul-le-mul {n₁ = k} {m₁ = n} {n₂ = arity m} {m₂ = n} fewer (le-refl n) in
     omega (arith, f .inside)
 
+-- what stands before a column takes few bytes
+pub columns-few : (size m n start a k : ℕ) → (a < 32) × Fitting size (tableWith m n start) → k ≡ onesBelow m a → k * n ≤ 32768
+columns-few size m n start a k (h, f) e =
+    let fewer : k ≤ 8 = omega (arith, ones-few m a (omega arith), f .few) in
+    mul-le-mul {n₁ = k} {m₁ = n} {n₂ = 8} {m₂ = 4096} fewer (f .low)
+
 pub column-place : (m n start a k : ℕ) → k ≡ onesBelow m a → start + 4 * (k * n) ≡ columnStart (tableWith m n start) a
 unfolding columnStart
 column-place m n start a k e = rw e

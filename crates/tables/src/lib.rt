@@ -158,12 +158,13 @@ pub fn width(file: &[u8]) -> usize
     words::ones(attributes_of(&masks, catalog.count)) as usize
 }
 
-// The offset of an attribute's column in the file.
+// The offset of an attribute's column in the file. The product is one of 32 bits: a column lies at most 131,072 bytes behind the
+// start of its table's columns.
 pub fn column_start(file: &[u8], mask: u32, rows: usize, start: usize, attribute: u32) -> usize
     requires { ⌜ (attribute < 32) × Fitting (length (now file)) (tableWith mask rows start) ⌝ }
     ensures { λ r. ⌜ r ≡ columnStart (tableWith mask rows start) attribute ⌝ }
 {
-    start + 4 * (words::ones_below(mask, attribute) as usize * rows)
+    start + (4 * (words::ones_below(mask, attribute) * (rows as u32))) as usize
 }
 
 // The value of a row in a column. No other function of the library reads an attribute value.

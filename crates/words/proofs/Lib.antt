@@ -1,4 +1,4 @@
 pub mod Masks
-pub mod Bounds
+pub mod Products
 pub mod Parts
 pub mod Arrays

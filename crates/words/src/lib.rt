@@ -6,6 +6,8 @@ ghost use Rattle.semantics.specs.Files.{wordAt, onesBelow, arity};
 ghost use Rattle.semantics.specs.Totals.{held};
 ghost use Rattle.semantics.specs.Outcome.{zeros};
 
+mod halves;
+
 fn wide(x: u8) -> u32
     ensures { λ r. ⌜ (r ≡ x) × (r < 256) ⌝ }
 {
@@ -49,27 +51,44 @@ pub fn ones(mask: u32) -> u32
     u32::count_ones(mask)
 }
 
-// A sum that stays at the holding limit.
+// The holding limit of document 01.
+const LIMIT: u32 = 4294967295;
+
+// A sum that stays at the limit.
 pub fn held_add(a: u32, b: u32) -> u32
     ensures { λ r. ⌜ r ≡ held (a + b) ⌝ }
 {
-    let sum = (a as u64) + (b as u64);
-    if sum < 4294967296 {
-        sum as u32
+    if b <= LIMIT - a { a + b } else { LIMIT }
+}
+
+// A word times a half, held: the product of the word's upper half counts 65,536 times.
+fn held_mul_half(a: u32, half: u32) -> u32
+    requires { ⌜ half < 65536 ⌝ }
+    ensures { λ r. ⌜ r ≡ held (a * half) ⌝ }
+{
+    let upper = halves::product(halves::upper(a), half);
+    let lower = halves::product(halves::lower(a), half);
+    if upper < 65536 {
+        held_add(upper << 16, lower)
     } else {
-        4294967295
+        LIMIT
     }
 }
 
-// A product that stays at the holding limit.
+// A product that stays at the limit. One factor is a half, or the product is past the limit.
 pub fn held_mul(a: u32, b: u32) -> u32
     ensures { λ r. ⌜ r ≡ held (a * b) ⌝ }
 {
-    let product = (a as u64) * (b as u64);
-    if product < 4294967296 {
-        product as u32
+    if b < 65536 {
+        if a < 65536 {
+            halves::product(a, b)
+        } else {
+            held_mul_half(a, b)
+        }
+    } else if a < 65536 {
+        held_mul_half(b, a)
     } else {
-        4294967295
+        LIMIT
     }
 }
 
