@@ -61,13 +61,14 @@ check-c: lib target/bin/pigrozd
 	MAKE='$(MAKE)' CC='$(CC)' sh tests/test_install.sh
 	sh tests/test_pages.sh
 
-# The Python package: the library through it, the reference's mending and the package's, tables and values, those that were not
-# recorded, the file format, pip. Then its commands. What needs NumPy or pandas is skipped, in words, where they are not there;
-# make check-users PYTHON=/usr/bin/python3 names another.
+# The Python package: the library through it, the totals that it forms and their multiplications, the reference's mending and the
+# package's, tables and values, those that were not recorded, the file format, pip. Then its commands. What needs NumPy or pandas
+# is skipped, in words, where they are not there; make check-users PYTHON=/usr/bin/python3 names another.
 PYTHON = python3
 
 check-python: lib
-	$(PYTHON) tests/run.py test_library test_mending test_mended_plans test_python test_not_recorded test_formats test_install
+	$(PYTHON) tests/run.py test_library test_products test_mending test_mended_plans test_python test_not_recorded test_formats \
+	    test_install
 
 check-commands: lib
 	$(PYTHON) tests/run.py test_commands test_join test_damaged test_documents

@@ -197,6 +197,29 @@ def buffer_samples():
     sample("results_held_from_the_left", file(same, *[FF] * 8, *range(9)), 5000, 300)
 
 
+def product_samples():
+    """Totals past 16 bits. The one row of the first table finds two groups, each of two tables: its total is their product."""
+
+    def two_groups(first, second):
+        tables = [table((0,), *[(5,)] * rows) for rows in (1, *first, *second)]
+        return file(tables, FF, FF, 0, FF, 1, 2, FF, 3, 4)
+
+    for name, first, second, product in (
+        ("of_the_largest_halves", (255, 257), (255, 257), 65535 * 65535),
+        ("of_a_half_and_65536", (255, 257), (256, 256), 65535 * 65536),
+        ("of_65536_and_a_half", (256, 256), (255, 257), 65536 * 65535),
+        ("one_past_the_limit", (256, 256), (256, 256), LARGEST),
+        ("of_both_halves_of_a_word", (256, 257), (255, 256), 65792 * 65280),
+        ("of_a_half_and_both_of_a_word", (255, 256), (256, 257), 65280 * 65792),
+        ("past_the_limit_by_the_lower_half", (256, 257), (97, 673), LARGEST),
+        ("below_the_limit_by_the_upper_half", (256, 512), (151, 217), 131072 * 32767),
+        ("one_past_the_limit_by_the_upper_half", (256, 512), (128, 256), LARGEST),
+    ):
+        data = two_groups(first, second)
+        assert reference.outcome(data, 12000, 300)[:2] == (11, product), name
+        sample("product_" + name, data, 12000, 300)
+
+
 # ---- keys and rows
 def key_samples():
     for k in range(9):
@@ -514,9 +537,9 @@ def after(answer, scratch):
 
 def main():
     for make in (
-        bench_samples, cut_samples, record_samples, plan_samples, buffer_samples, key_samples, unrecorded_samples,
-        row_samples, many_table_samples, tree_samples, mended_samples, mended_choice_samples, no_holder_samples,
-        sixteen_samples, mended_tree_samples,
+        bench_samples, cut_samples, record_samples, plan_samples, buffer_samples, product_samples, key_samples,
+        unrecorded_samples, row_samples, many_table_samples, tree_samples, mended_samples, mended_choice_samples,
+        no_holder_samples, sixteen_samples, mended_tree_samples,
     ):
         make()
     folder = os.path.join(TOP, "crates/samples/data")

@@ -61,21 +61,21 @@ pub fn held_add(a: u32, b: u32) -> u32
     if b <= LIMIT - a { a + b } else { LIMIT }
 }
 
-// A word times a half, held: the product of the word's upper half counts 65,536 times.
+// A word times a half, held. The product of the word's upper half counts 65,536 times.
 fn held_mul_half(a: u32, half: u32) -> u32
     requires { ⌜ half < 65536 ⌝ }
     ensures { λ r. ⌜ r ≡ held (a * half) ⌝ }
 {
-    let upper = halves::product(halves::upper(a), half);
-    let lower = halves::product(halves::lower(a), half);
-    if upper < 65536 {
-        held_add(upper << 16, lower)
+    let upper_product = halves::product(halves::upper(a), half);
+    let lower_product = halves::product(halves::lower(a), half);
+    if upper_product < 65536 {
+        held_add(upper_product << 16, lower_product)
     } else {
         LIMIT
     }
 }
 
-// A product that stays at the limit. One factor is a half, or the product is past the limit.
+// A product that stays at the limit. One of the numbers is a half, or the product is past the limit.
 pub fn held_mul(a: u32, b: u32) -> u32
     ensures { λ r. ⌜ r ≡ held (a * b) ⌝ }
 {
