@@ -1,5 +1,5 @@
-"""Tests of the totals that the library forms: no multiplication of the built library is wider than 32 bits, and products
-and sums of totals at every edge are those that document 01 says. Needs objdump and nm, which come with a C compiler."""
+"""Tests of the totals that the library forms: no multiplication of the built library is wider than 32 bits, and
+products and sums of totals at every edge are document 01's. Needs objdump and nm, which come with a C compiler."""
 import array
 import functools
 import os
@@ -24,8 +24,8 @@ def printed(*command):
 
 
 def is_narrow(name, operands):
-    """Whether a multiplication's product has 32 bits. That of imul with two or three operands has the first one's size.
-    All others count as wide: mul and imul of one operand make twice its size, mulx does, and so do vector forms."""
+    """Whether a multiplication's product has 32 bits. That of imul with two or three operands has the first one's
+    size. All others count as wide: mul and imul of one operand make twice its size, mulx and vector forms too."""
     first = operands.split(",")[0]
     return name == "imul" and "," in operands and re.fullmatch(r"e[a-ds][xip]|r\d+d", first) is not None
 
@@ -69,9 +69,9 @@ class Multiplications(Folder):
 # ---- totals
 @functools.lru_cache(maxsize=None)
 def tables_of(total, key, first):
-    """Seven tables. Rows of the first that have 1 in the attribute `key` have this total together: each has a power of 32,
-    which its lookups in the six others multiply up, and there are as many as its digit to base 32 says. A row that has 2
-    there has the total 1. The six share the attributes from `first` on with it, one each."""
+    """Seven tables. Rows of the first one that have 1 in the attribute `key` have this total together: that of each is
+    a power of 32, the product of what it finds in the six others, and there are as many as the digit to base 32 says.
+    A row that has 2 there has the total 1. The six share the attributes from `first` on with the first, one each."""
     ladder = range(first, first + 6)
     powers = [power for power in range(7) for _ in range(total // 32**power % 32)]
     rows = [(1, *(int(a - first < power) for a in ladder)) for power in powers]
