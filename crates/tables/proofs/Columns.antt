@@ -4,11 +4,12 @@ use mathlib.Core.Bool.{true}
 use Prim.Native.Nat.{ℕ, zero, suc, _+_, _*_, _-_, _≤_, _<_}
 use native.Mathlib.Nat.{mul-le-mul, le-refl, add-zero, add-mul, one-mul}
 use native.Mathlib.Omega.{arith}
-use borrow.Author.Tests.{eqb-true}
+use borrow.Author.Tests.{eqb-true, le-ltb}
 use Rattle.semantics.specs.Lists.{sum, from, upTo}
 use Rattle.semantics.specs.Files.{Table, bit, hasBit, onesBelow, arity, columnBytes, columnStart, Fitting}
 use Rattle.semantics.proofs.Numbers.{sum-last}
 use Rattle.tables.specs.Catalogs.{tableWith}
+use Rattle.tables.proofs.TableRecords.{values-few}
 
 sum-longer : (f : ℕ → ℕ) (n k : ℕ) → sum f (from 0 n) ≤ sum f (from 0 (n + k))
 sum-longer f n zero = rw (add-zero n) (le-refl _)
@@ -26,11 +27,11 @@ column-inside size m n start a k (h, f) e =
     let shorter : k * n ≤ arity m * n = mul-le-mul {n₁ = k} {m₁ = n} {n₂ = arity m} {m₂ = n} fewer (le-refl n) in
     omega (arith, f .inside)
 
--- what stands before a column takes few bytes
-pub columns-few : (size m n start a k : ℕ) → (a < 32) × Fitting size (tableWith m n start) → k ≡ onesBelow m a → k * n ≤ 32768
-columns-few size m n start a k (h, f) e =
+-- the values before a column are no more than a table's
+pub values-before : (size m n start a k : ℕ) → (a < 32) × Fitting size (tableWith m n start) → k ≡ onesBelow m a → k * n ≤ 32768
+values-before size m n start a k (h, f) e =
     let fewer : k ≤ 8 = omega (arith, ones-few m a (omega arith), f .few) in
-    mul-le-mul {n₁ = k} {m₁ = n} {n₂ = 8} {m₂ = 4096} fewer (f .low)
+    values-few k n (le-ltb 8 k fewer) (f .low)
 
 pub column-place : (m n start a k : ℕ) → k ≡ onesBelow m a → start + 4 * (k * n) ≡ columnStart (tableWith m n start) a
 unfolding columnStart
