@@ -23,15 +23,15 @@ returns : tie.Need-returns
 returns c = let l = c .before .before in
     let u = l .before .before in
     let o = u .before .before .args in
-    held-parts (o .a) (o .half) (u .before .upper .ensures .0) (l .before .lower .ensures .0) (u .product .ensures)
-    (l .product2 .ensures) (c .before .if1 .taken) (c .held-add .ensures)
+    held-parts (o .a) (o .half) (u .before .upper .ensures .0) (l .before .lower .ensures .0) (u .product .ensures .0)
+    (l .product2 .ensures .0) (c .before .if1 .taken) (c .held-add .ensures)
 
 returns-2 : tie.Need-returns-2
 returns-2 c = let l = c .before in
     let u = l .before .before in
     let o = u .before .before .args in
-    held-past (o .a) (o .half) (u .before .upper .ensures .0) (l .before .lower .ensures .0) (u .product .ensures)
-    (l .product2 .ensures) (omega arith)
+    held-past (o .a) (o .half) (u .before .upper .ensures .0) (l .before .lower .ensures .0) (u .product .ensures .0)
+    (l .product2 .ensures .0) (omega arith)
 
 pub held-mul-half-spec : {M : Type 1} → statement M
 held-mul-half-spec =
