@@ -12,7 +12,7 @@ test:
 
 # What takes minutes says so before it begins.
 say-first:
-	@test -e target/stamp/join || echo 'make: everything is proved before it is built: 3 to 4 minutes on 2 cores, the first time' >&2
+	@test -e target/stamp/join || echo 'make: everything is proved before it is built: 2 to 4 minutes on 2 cores, the first time' >&2
 
 .PHONY: run test say-first
 
@@ -137,9 +137,9 @@ clean:
 # Times are of 2 cores.
 help:
 	@printf '%s\n' \
-	    'make run [FILE=path]   joins a file, or the sample; 3 to 4 minutes the first time, since all is proved first, then a second' \
+	    'make run [FILE=path]   joins a file, or the sample; 2 to 4 minutes the first time, since all is proved first, then a second' \
 	    'make test              rt ci: proves everything from nothing and tries the must-fail edits; 16 to 21 minutes' \
-	    'make lib               target/lib/libpigrozd.a and libpigrozd.so; 3 to 4 minutes the first time, 20 seconds after make run' \
+	    'make lib               target/lib/libpigrozd.a and libpigrozd.so; 2 to 4 minutes the first time, 20 seconds after make run' \
 	    'make install [PREFIX=/usr/local] [DESTDIR=]' \
 	    '                       header, libraries, pkg-config file, program and manual pages; a second after make lib and make run' \
 	    'make uninstall         removes what make install put there; the same PREFIX and DESTDIR' \

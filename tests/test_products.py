@@ -8,14 +8,14 @@ import subprocess
 import unittest
 
 from make_samples import FF, file, table
+from reference import HOLD
 from support import Folder, path
 
 import pigrozd
 
-LIMIT = 4294967295  # totals are held up to it
 BUILT = [path("target", "lib", name) for name in ("libpigrozd.a", "libpigrozd.so")]
 POWERS = [1 << i for i in range(33)]
-EDGES = sorted({0, LIMIT - 1, LIMIT, *POWERS, *(n - 1 for n in POWERS), *(n + 1 for n in POWERS)})
+EDGES = sorted({0, HOLD - 1, HOLD, *POWERS, *(n - 1 for n in POWERS), *(n + 1 for n in POWERS)})
 
 
 # ---- multiplications of a built file
@@ -93,7 +93,7 @@ class Totals(unittest.TestCase):
 
     def check_product(self, a, b):
         """One row finds both groups: its total is their product."""
-        self.check(a, b, [(1, 1)], min(min(a, LIMIT) * min(b, LIMIT), LIMIT))
+        self.check(a, b, [(1, 1)], min(min(a, HOLD) * min(b, HOLD), HOLD))
 
     def test_products(self):
         for a in EDGES:
@@ -103,7 +103,7 @@ class Totals(unittest.TestCase):
     def test_products_around_the_limit(self):
         """The largest product of each number that is not past the limit, and the next one."""
         for a in EDGES[1:]:
-            for b in (LIMIT // a, LIMIT // a + 1):
+            for b in (HOLD // a, HOLD // a + 1):
                 self.check_product(a, b)
                 self.check_product(b, a)
 
@@ -111,7 +111,7 @@ class Totals(unittest.TestCase):
         """One row finds the first group, the other the second: the total is the sum."""
         for a in EDGES:
             for b in EDGES:
-                self.check(a, b, [(1, 2), (2, 1)], min(a + b, LIMIT))
+                self.check(a, b, [(1, 2), (2, 1)], min(a + b, HOLD))
 
 
 if __name__ == "__main__":
