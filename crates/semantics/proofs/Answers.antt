@@ -2,6 +2,7 @@
 -- never given, and demand 3's bound.
 use mathlib.Core.Path.{_≡_, refl}
 use mathlib.Core.List.{List, [], _++_}
+use mathlib.Core.Logic.{_⊎_, inl, inr}
 use Prim.Native.Nat.{ℕ, _+_, _*_, _≤_, _<_, min}
 use native.Mathlib.Omega.{arith}
 use native.Mathlib.Nat.{div-le-self}
@@ -14,12 +15,12 @@ use Rattle.semantics.specs.Plans.{Plan}
 use Rattle.semantics.specs.Shapes.{noTable, WellBehaved, width, scratchNeed, outputFits}
 use Rattle.semantics.specs.Results.{Base, Pick, baseOf, results, tuple}
 use Rattle.semantics.specs.Totals.{holdLimit, held, countedTotal}
-use Rattle.semantics.specs.Outcome.{Outcome, refusal, refused, admitted, rulesVerdict, scratchVerdict, verdict, WithinRules, zeros, joinedAnswer, joinOutcome, outcome, figuresOf, figures, WithinBound}
+use Rattle.semantics.specs.Outcome.{Outcome, refusal, refused, admitted, BeforeTen, ThroughTen, rulesVerdict, scratchVerdict, verdict, WithinRules, zeros, joinedAnswer, joinOutcome, outcome, figuresOf, figures, WithinBound}
 use Rattle.semantics.proofs.Cases.{cases}
 use Rattle.semantics.proofs.Reading.{value-small}
 use Rattle.semantics.proofs.Totals.{counted-results}
 use Rattle.semantics.proofs.Bound.{rowsOf, bound}
-use Rattle.semantics.proofs.Rules.{verdict-cases, rules-number, rules-within, verdict-number, verdict-within, verdict-rules, scratch-short, scratch-enough, tables-count, rows-count}
+use Rattle.semantics.proofs.Rules.{verdict-cases, rules-number, rules-within, verdict-number, through-ten, verdict-within, verdict-rules, scratch-short, scratch-enough, tables-count, rows-count}
 
 -- ---- past 10
 -- an output never fits more rows than the holding limit counts
@@ -46,10 +47,10 @@ joins-all D p w s o b h =
     rw (le-ltb (outputFits w (length o)) (length (results D p)) h, eq-eqb (countedTotal D p) (length (results D p)) (counted-exact D p w (length o) b h), joinOutcome)
 
 -- ---- when each answer is given, and what it leaves
--- a file that is not within the rules: 1 to 9, and no buffer changes
-pub outside-rules : (bytes s o : List ℕ) (n d : ℕ) → rulesVerdict bytes ≡ refused n d → (outcome bytes s o ≡ record { answer = refusal n d; scratch = s; output = o }) × (1 ≤ n) × (n ≤ 9)
+-- a file that is not within the rules: a number before 10, and no buffer changes
+pub outside-rules : (bytes s o : List ℕ) (n d : ℕ) → rulesVerdict bytes ≡ refused n d → (outcome bytes s o ≡ record { answer = refusal n d; scratch = s; output = o }) × BeforeTen n
 unfolding outcome verdict scratchVerdict
-outside-rules bytes s o n d e = (rw (e, outcome), (rules-number bytes n d e) .0, (rules-number bytes n d e) .1)
+outside-rules bytes s o n d e = (rw (e, outcome), rules-number bytes n d e)
 
 module _ (bytes s o : List ℕ) (ts : List Table) (p : Plan) (e : rulesVerdict bytes ≡ admitted ts p) where
   abbrev rs : List (List Pick)
@@ -73,14 +74,14 @@ module _ (bytes s o : List ℕ) (ts : List Table) (p : Plan) (e : rulesVerdict b
 
 -- every outcome is one of three: refused up to 10, 11, and 0
 pub outcome-cases : (P : Outcome → Type 0) (bytes s o : List ℕ)
-    → ((n d : ℕ) → 1 ≤ n → n ≤ 10 → P (record { answer = refusal n d; scratch = s; output = o }))
+    → ((n d : ℕ) → ThroughTen n → P (record { answer = refusal n d; scratch = s; output = o }))
     → ((n : ℕ) → P (record { answer = refusal 11 n; scratch = zeros s; output = o }))
     → ((ts : List Table) (p : Plan) → rulesVerdict bytes ≡ admitted ts p → (after : List ℕ) → P (record { answer = joinedAnswer (baseOf bytes ts) p; scratch = zeros s; output = after }))
     → P (outcome bytes s o)
 unfolding outcome baseOf
 outcome-cases P bytes s o f g h =
     verdict-cases (verdict bytes (length s))
-    (λ n d e. rw (e, outcome) (f n d ((verdict-number bytes (length s) n d e) .0) ((verdict-number bytes (length s) n d e) .1)))
+    (λ n d e. rw (e, outcome) (f n d (verdict-number bytes (length s) n d e)))
     (λ ts p e.
     let D = baseOf bytes ts in
     cases (ltb (outputFits (width ts) (length o)) (length (results D p)))
@@ -92,32 +93,34 @@ outcome-cases P bytes s o f g h =
 -- 12 is never given, whatever the file and the buffers
 pub never-12 : (bytes s o : List ℕ) → (outcome bytes s o) .answer .number ≡ 12 → ⊥
 unfolding joinedAnswer
-never-12 bytes s o = outcome-cases (λ r. r .answer .number ≡ 12 → ⊥) bytes s o (λ n d a b e. omega arith) (λ n e. omega arith) (λ ts p e after q. omega arith)
+never-12 bytes s o = outcome-cases (λ r. r .answer .number ≡ 12 → ⊥) bytes s o (λ n d a e. (through-ten n a) .2 e) (λ n e. omega arith) (λ ts p e after q. omega arith)
 
--- the numbers that are given
-pub number-le : (bytes s o : List ℕ) → (outcome bytes s o) .answer .number ≤ 11
+-- the numbers that are given: 0, 11, and those up to 10 in the order
+pub number-given : (bytes s o : List ℕ) → let n = (outcome bytes s o) .answer .number in (n ≡ 0) ⊎ ((n ≡ 11) ⊎ ThroughTen n)
 unfolding joinedAnswer
-number-le bytes s o = outcome-cases (λ r. r .answer .number ≤ 11) bytes s o (λ n d a b. omega arith) (λ n. omega arith) (λ ts p e after. omega arith)
+number-given bytes s o =
+    outcome-cases (λ r. (r .answer .number ≡ 0) ⊎ ((r .answer .number ≡ 11) ⊎ ThroughTen (r .answer .number))) bytes s o
+    (λ n d a. inr (inr a)) (λ n. inr (inl refl)) (λ ts p e after. inl refl)
 
 -- a refusal returns its detail and zero counts, and the output stays untouched
 pub refusal-is : (bytes s o : List ℕ) → let r = outcome bytes s o in 1 ≤ r .answer .number → (r .answer ≡ refusal (r .answer .number) (r .answer .detail)) × (r .output ≡ o)
 unfolding joinedAnswer
 refusal-is bytes s o =
     outcome-cases (λ r. 1 ≤ r .answer .number → (r .answer ≡ refusal (r .answer .number) (r .answer .detail)) × (r .output ≡ o)) bytes s o
-    (λ n d a b h. (refl, refl)) (λ n h. (refl, refl)) (λ ts p e after h. absurd (omega arith))
+    (λ n d a h. (refl, refl)) (λ n h. (refl, refl)) (λ ts p e after h. absurd (omega arith))
 
--- the scratch stays untouched after 1 to 10
-pub scratch-kept : (bytes s o : List ℕ) → let r = outcome bytes s o in 1 ≤ r .answer .number → r .answer .number ≤ 10 → r .scratch ≡ s
+-- the scratch stays untouched after the numbers up to 10
+pub scratch-kept : (bytes s o : List ℕ) → let r = outcome bytes s o in ThroughTen (r .answer .number) → r .scratch ≡ s
 unfolding joinedAnswer
 scratch-kept bytes s o =
-    outcome-cases (λ r. 1 ≤ r .answer .number → r .answer .number ≤ 10 → r .scratch ≡ s) bytes s o
-    (λ n d a b h k. refl) (λ n h k. absurd (omega arith)) (λ ts p e after h k. absurd (omega arith))
+    outcome-cases (λ r. ThroughTen (r .answer .number) → r .scratch ≡ s) bytes s o
+    (λ n d a h. refl) (λ n h. absurd ((through-ten 11 h) .1 refl)) (λ ts p e after h. let z = (through-ten 0 h) .0 in absurd (omega arith))
 
--- and is all zero after 0 and 11
-pub scratch-zero : (bytes s o : List ℕ) → let r = outcome bytes s o in (1 ≤ r .answer .number → 11 ≤ r .answer .number) → r .scratch ≡ zeros s
+-- and is all zero after the others, 0 and 11
+pub scratch-zero : (bytes s o : List ℕ) → let r = outcome bytes s o in (ThroughTen (r .answer .number) → ⊥) → r .scratch ≡ zeros s
 scratch-zero bytes s o =
-    outcome-cases (λ r. (1 ≤ r .answer .number → 11 ≤ r .answer .number) → r .scratch ≡ zeros s) bytes s o
-    (λ n d a b h. absurd (let k : 11 ≤ n = h a in omega arith)) (λ n h. refl) (λ ts p e after h. refl)
+    outcome-cases (λ r. (ThroughTen (r .answer .number) → ⊥) → r .scratch ≡ zeros s) bytes s o
+    (λ n d a h. absurd (h a)) (λ n h. refl) (λ ts p e after h. refl)
 
 -- ---- demand 3's bound
 -- of a file within the rules
@@ -132,5 +135,5 @@ pub within-bound : (bytes s o : List ℕ) → Bytes bytes → (outcome bytes s o
 unfolding figures
 within-bound bytes s o b =
     outcome-cases (λ r. r .answer .number ≡ 0 → WithinBound (figures bytes) (r .answer)) bytes s o
-    (λ n d h k e. absurd (omega arith)) (λ n e. absurd (omega arith))
+    (λ n d h e. let z = (through-ten n h) .0 in absurd (omega arith)) (λ n e. absurd (omega arith))
     (λ ts p e after q. rw (e, figures) (joined-bound bytes ts p b (rules-within bytes ts p e)))

@@ -1,18 +1,18 @@
 -- Join trees: what is hung where keeps the plan well-behaved; plans and trees are one to one.
 use mathlib.Core.Path.{_≡_, refl, sym, ap, ap₂, _∙_}
-use mathlib.Core.Bool.{Bool, true, false, _&&_, _||_, not}
+use mathlib.Core.Bool.{Bool, true, false, _&&_, _||_}
 use mathlib.Core.List.{List, [], _∷_, _++_, append-assoc}
-use Prim.Native.Nat.{ℕ, _+_, _≤_, _<_, zero-le}
-use lib.Dec.{eqb}
+use Prim.Native.Nat.{ℕ, _<_}
+use lib.Dec.{eqb, ltb}
 use borrow.Author.Tests.{eqb-true, eq-eqb}
-use Rattle.semantics.specs.Lists.{any, from, upTo, Permutation, unchanged, beside, after}
+use Rattle.semantics.specs.Lists.{any, Permutation, unchanged, beside, after}
 use Rattle.semantics.specs.Plans.{Plan, scan, join, tables, leftmost}
-use Rattle.semantics.specs.Shapes.{Shape, attributes, holds, shared, joinAttributes, behaves, WellBehaved}
+use Rattle.semantics.specs.Shapes.{Shape, holds, shared, joinAttributes, behaves, WellBehaved}
 use Rattle.semantics.proofs.Cases.{cases, and-left, and-right, or-cases, or-left, or-right}
 use Rattle.semantics.proofs.Permutations.{permutation-any, last-two}
-use Rattle.semantics.proofs.Lists.{Each-map, all-true, true-all, all-filter, any-append}
-use Rattle.semantics.proofs.Numbers.{from-at, from-lt}
-use Rattle.semantics.specs.JoinTrees.{namesTable, hangUnder, JoinTree, node, Children, childless, child, planOfTree, inTurn, childLast, hungLast, treeOf}
+use Rattle.semantics.proofs.Lists.{any-append}
+use Rattle.semantics.proofs.Attributes.{each-attribute, attribute-each}
+use Rattle.semantics.specs.JoinTrees.{namesTable, hangUnder, hangRising, JoinTree, node, Children, childless, child, planOfTree, inTurn, childLast, hungLast, treeOf}
 
 -- the attributes found both in p and in c are all in the tables x and y
 abbrev pub Within : Shape → Plan → Plan → ℕ → ℕ → Type 0
@@ -34,6 +34,20 @@ hang-tables x c (join a b) =
     hang-cases (λ q. Permutation (tables q) ((tables a ++ tables b) ++ tables c)) x c a b (λ h. unchanged)
     (λ g. after (beside (hang-tables x c a) unchanged) (last-two (tables a) (tables c) (tables b)))
     (λ g. rw (append-assoc (tables a) (tables b) (tables c)) (beside (unchanged {xs = tables a}) (hang-tables x c b)))
+
+-- hung at its place among the root's children
+rising-cases : (P : Plan → Type 0) (c a b : Plan) → P (join (hangRising c a) b) → P (join (join a b) c) → P (hangRising c (join a b))
+rising-cases P c a b f g = cases (ltb (leftmost c) (leftmost b)) (λ h. rw (h, hangRising) f) (λ h. rw (h, hangRising) g)
+
+pub rising-leftmost : (c p : Plan) → leftmost (hangRising c p) ≡ leftmost p
+rising-leftmost c (scan t) = refl
+rising-leftmost c (join a b) = rising-cases (λ q. leftmost q ≡ leftmost a) c a b (rising-leftmost c a) refl
+
+pub rising-tables : (c p : Plan) → Permutation (tables (hangRising c p)) (tables p ++ tables c)
+rising-tables c (scan t) = unchanged
+rising-tables c (join a b) =
+    rising-cases (λ q. Permutation (tables q) ((tables a ++ tables b) ++ tables c)) c a b
+    (after (beside (rising-tables c a) unchanged) (last-two (tables a) (tables c) (tables b))) unchanged
 
 -- what is named has what passes
 pub named-any : (q : ℕ → Bool) (x : ℕ) (ts : List ℕ) → any (eqb x) ts ≡ true → q x ≡ true → any q ts ≡ true
@@ -62,30 +76,27 @@ module _ (S : Shape) where
   unfolding holds
   holds-hang x c p a = permutation-any (λ t. S .has t a) (hang-tables x c p) ∙ any-append (λ t. S .has t a) (tables p) (tables c)
 
+  pub holds-rising : (c p : Plan) (a : ℕ) → holds S (hangRising c p) a ≡ (holds S p a || holds S c a)
+  unfolding holds
+  holds-rising c p a = permutation-any (λ t. S .has t a) (rising-tables c p) ∙ any-append (λ t. S .has t a) (tables p) (tables c)
+
   -- what `behaves` says, attribute by attribute
   pub behaves-within : (l r : Plan) → behaves S l r ≡ true → Within S l r (leftmost l) (leftmost r)
-  unfolding behaves joinAttributes shared attributes upTo
+  unfolding behaves joinAttributes shared
   behaves-within l r e a h hl hr =
-      let both : ℕ → Bool = λ a. S .has (leftmost l) a && S .has (leftmost r) a in
-      let s : (not (shared S l r a) || both a) ≡ true = from-at (λ a. (not (shared S l r a) || both a) ≡ true) 0 32 a (all-true (λ a. not (shared S l r a) || both a) (from 0 32) (sym (all-filter (shared S l r) both (from 0 32)) ∙ e)) zero-le h in
-      let t : both a ≡ true = rw (hl, hr) at s in
+      let t = each-attribute (shared S l r) (λ a. S .has (leftmost l) a && S .has (leftmost r) a) e a h (rw (hl, hr)) in
       (and-left (S .has (leftmost l) a) (S .has (leftmost r) a) t, and-right (S .has (leftmost l) a) (S .has (leftmost r) a) t)
 
   pub within-behaves : (l r : Plan) → Within S l r (leftmost l) (leftmost r) → behaves S l r ≡ true
-  unfolding behaves joinAttributes attributes upTo
+  unfolding behaves joinAttributes shared
   within-behaves l r w =
-      let both : ℕ → Bool = λ a. S .has (leftmost l) a && S .has (leftmost r) a in
-      all-filter (shared S l r) both (from 0 32)
-      ∙ true-all (λ a. not (shared S l r a) || both a) (from 0 32)
-      (Each-map (λ a. (0 ≤ a) × (a < 0 + 32)) (λ a. (not (shared S l r a) || both a) ≡ true)
-      (λ a h. unfold shared in cases (holds S l a)
-      (λ hl. cases (holds S r a) (λ hr. let (x, y) = w a (h .1) hl hr in rw (hl, hr, x, y)) (λ hr. rw (hl, hr)))
-      (λ hl. rw hl)) (from 0 32) (from-lt 0 32))
+      attribute-each (shared S l r) (λ a. S .has (leftmost l) a && S .has (leftmost r) a)
+      (λ a h e. let (x, y) = w a h (and-left (holds S l a) (holds S r a) e) (and-right (holds S l a) (holds S r a) e) in rw (x, y))
 
-  in-left : (l r : Plan) (a : ℕ) → holds S l a ≡ true → holds S (join l r) a ≡ true
+  pub in-left : (l r : Plan) (a : ℕ) → holds S l a ≡ true → holds S (join l r) a ≡ true
   in-left l r a h = holds-join l r a ∙ or-left (holds S l a) (holds S r a) h
 
-  in-right : (l r : Plan) (a : ℕ) → holds S r a ≡ true → holds S (join l r) a ≡ true
+  pub in-right : (l r : Plan) (a : ℕ) → holds S r a ≡ true → holds S (join l r) a ≡ true
   in-right l r a h = holds-join l r a ∙ or-right (holds S l a) (holds S r a) h
 
   -- hung under a table that holds what the two trees share, as the root of the hung tree does
@@ -111,6 +122,20 @@ module _ (S : Shape) where
         wp .1,
         hang-wellBehaved x c b (wp .2) wc nb (λ k h hb hc. w k h (in-right a b k hb) hc),
       ))
+
+  -- the same at its place among the root's children
+  pub rising-wellBehaved : (c p : Plan) → WellBehaved S p → WellBehaved S c → Within S p c (leftmost p) (leftmost c) → WellBehaved S (hangRising c p)
+  rising-wellBehaved c (scan t) wp wc w = (within-behaves (scan t) c w, tt, wc)
+  rising-wellBehaved c (join a b) wp wc w =
+      rising-cases (WellBehaved S) c a b (
+        within-behaves (hangRising c a) b
+            (λ k h ha hb. rw (rising-leftmost c a)
+            (or-cases (holds S a k) (holds S c k) (sym (holds-rising c a k) ∙ ha) (λ g. behaves-within a b (wp .0) k h g hb)
+            (λ g. behaves-within a b (wp .0) k h (holds-named a (leftmost a) k (names-leftmost a) (w k h (in-right a b k hb) g .0)) hb))),
+        rising-wellBehaved c a (wp .1) wc (λ k h ha hc. w k h (in-left a b k ha) hc),
+        wp .2,
+      )
+      (within-behaves (join a b) c w, wp, wc)
 
 -- ---- trees written out
 inTurn-last : (cs : Children) (d : JoinTree) (p : Plan) → inTurn (childLast cs d) p ≡ join (inTurn cs p) (planOfTree d)

@@ -14,6 +14,7 @@ pub mod Bound
 pub mod Spelling
 pub mod Misplaced
 pub mod Permutations
+pub mod Attributes
 pub mod JoinTrees
 pub mod Mending
 pub mod Mendable
@@ -21,9 +22,18 @@ pub mod Topmost
 pub mod Lacking
 pub mod Naming
 pub mod Misnamed
+pub mod TableSets
+pub mod Ears
+pub mod Reducing
+pub mod Hangings
+pub mod Stuck
+pub mod Forests
+pub mod FoundPlans
+pub mod Eliminating
 pub mod Choices
 pub mod Reading
 pub mod Values
+pub mod SentAnswers
 pub mod PlanAnswers
 pub mod Rules
 pub mod Output

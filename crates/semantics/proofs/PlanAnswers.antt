@@ -1,108 +1,141 @@
--- The answers 7, 8 and 9 of a file, each with its detail, in document 01's words; and when a plan is within the rules.
-use mathlib.Core.Path.{_≡_, sym, ap, _∙_}
+-- The answers 7, 8, 9 and 14 of a file, each with its detail, in the papers' words; and which plan a file within the rules has the join
+-- follow.
+use mathlib.Core.Path.{_≡_, refl, sym, ap, _∙_}
+use mathlib.Core.Bool.{true, false}
+use mathlib.Core.List.{List, [], _∷_}
 use mathlib.Core.Logic.{_↔_}
-use mathlib.Core.List.{List, []}
-use mathlib.Core.Option.{none, some}
-use Prim.Native.Nat.{ℕ, _≤_}
+use Prim.Native.Nat.{ℕ, _≤_, _<_}
 use native.Mathlib.Omega.{arith}
 use lib.ListN.{length}
 use Rattle.semantics.specs.Files.{Table, fault, planBytes, read}
-use Rattle.semantics.specs.Plans.{Plan, tables, misplaced, planOf, misnamed}
+use Rattle.semantics.specs.Plans.{Plan, scan, join, encode, tables}
 use Rattle.semantics.specs.Shapes.{shapeOf}
-use Rattle.semantics.specs.Mending.{mend, Mendable, unmendable}
-use Rattle.semantics.specs.Details.{SpellsPlan, FirstMisplaced, NamedOnce, FirstMisnamed, FirstLacking, ReadsPlan}
-use Rattle.semantics.specs.Outcome.{Verdict, refused, admitted, planVerdict, readVerdict, rulesVerdict}
-use Rattle.semantics.proofs.Cases.{option-cases}
+use Rattle.semantics.specs.Mending.{mend, Mendable}
+use Rattle.semantics.specs.Elimination.{Hanging, rooted, stuck, eliminate, planUnder}
+use Rattle.semantics.specs.Details.{SpellsPlan, FirstMisplaced, NamedOnce, FirstMisnamed, FirstLacking, WithoutPlan, NoneHangs, NoPlan, FoundPlan, Followed, mended, found, ReadsPlan}
+use Rattle.semantics.specs.Outcome.{Verdict, refused, admitted, sentVerdict, foundVerdict, asksForPlan, planVerdict, readVerdict, rulesVerdict}
+use Rattle.semantics.proofs.Cases.{cases, true-false}
 use Rattle.semantics.proofs.Reading.{ending-cases, fault-number}
-use Rattle.semantics.proofs.Spelling.{planOf-encode}
-use Rattle.semantics.proofs.Misplaced.{spelled-exactly, first-misplaced}
-use Rattle.semantics.proofs.Misnamed.{plan-named-exactly, first-misnamed}
-use Rattle.semantics.proofs.Lacking.{mendable-exactly, first-lacking}
+use Rattle.semantics.proofs.FoundPlans.{elimination-cases, sums-named, rooted-plan, stuck-none}
+use Rattle.semantics.proofs.Eliminating.{stuck-exactly, rooted-exactly}
+use Rattle.semantics.proofs.SentAnswers.{sent-seven, sent-eight, sent-nine, sent-within, sent-other}
 
--- two refusals at once
-clash : {P : Type 0} {v : Verdict} {n d m c : ℕ} → v ≡ refused n d → v ≡ refused m c → (n ≡ m → ⊥) → P
-clash e f h = absurd (h (cc))
+-- ---- a plan is asked for
+asks : (ts : List Table) (code : List ℕ) → asksForPlan ts code ≡ true → WithoutPlan ts code
+unfolding asksForPlan
+asks [] code e = absurd (true-false false e refl)
+asks (t ∷ ts) [] e = record { present = omega arith; empty = refl }
+asks (t ∷ ts) (b ∷ code) e = absurd (true-false false e refl)
+
+without-asks : (ts : List Table) (code : List ℕ) → WithoutPlan ts code → asksForPlan ts code ≡ true
+unfolding asksForPlan
+without-asks [] code w = let z = w .present in absurd (omega arith)
+without-asks (t ∷ ts) code w = rw (w .empty)
+
+-- bytes that spell a plan do not ask for one
+spells-plan : (ts : List Table) (code : List ℕ) → SpellsPlan code → WithoutPlan ts code → ⊥
+spells-plan ts code s w = some-byte (s .plan) (s .is ∙ w .empty)
+  where
+    some-byte : (p : Plan) → encode p ≡ [] → ⊥
+    some-byte (scan t) e = let z = ap length e in omega arith
+    some-byte (join l r) e = let z = ap length e in omega arith
 
 module _ (ts : List Table) (code : List ℕ) where
-  seven : {i : ℕ} → misplaced 1 0 code ≡ some i → planVerdict ts code ≡ refused 7 i
+  asked : WithoutPlan ts code → planVerdict ts code ≡ foundVerdict ts
   unfolding planVerdict
-  seven h = rw (h, planVerdict)
+  asked w = rw (without-asks ts code w, planVerdict)
 
-  eight : {i : ℕ} → misplaced 1 0 code ≡ none → misnamed (length ts) [] 0 code ≡ some i → planVerdict ts code ≡ refused 8 i
+  plan-cases : {P : Type 0} → (WithoutPlan ts code → planVerdict ts code ≡ foundVerdict ts → P) → ((WithoutPlan ts code → ⊥) → planVerdict ts code ≡ sentVerdict ts code → P) → P
   unfolding planVerdict
-  eight h g = rw (h, g, planVerdict)
+  plan-cases f g =
+      cases (asksForPlan ts code) (λ h. f (asks ts code h) (rw (h, planVerdict)))
+      (λ h. g (λ w. true-false (asksForPlan ts code) (without-asks ts code w) h) (rw (h, planVerdict)))
 
-  nine : {i : ℕ} → misplaced 1 0 code ≡ none → misnamed (length ts) [] 0 code ≡ none → unmendable (shapeOf ts) (planOf code) 0 ≡ some i → planVerdict ts code ≡ refused 9 i
-  unfolding planVerdict
-  nine h g f = rw (h, g, f, planVerdict)
+  -- ---- what is found: 14 or a plan
+  found-plan : {z : ℕ} {hs : List Hanging} → eliminate (shapeOf ts) (length ts) ≡ rooted z hs → foundVerdict ts ≡ admitted ts (planUnder hs z)
+  unfolding foundVerdict
+  found-plan e = rw (e, foundVerdict)
 
-  within : misplaced 1 0 code ≡ none → misnamed (length ts) [] 0 code ≡ none → unmendable (shapeOf ts) (planOf code) 0 ≡ none → planVerdict ts code ≡ admitted ts (mend (shapeOf ts) (planOf code))
-  unfolding planVerdict
-  within h g f = rw (h, g, f, planVerdict)
+  found-none : {d : ℕ} → eliminate (shapeOf ts) (length ts) ≡ stuck d → foundVerdict ts ≡ refused 14 d
+  unfolding foundVerdict
+  found-none e = rw (e, foundVerdict)
 
-  judged : {P : Type 0}
-      → ((i : ℕ) → misplaced 1 0 code ≡ some i → P)
-      → ((i : ℕ) → misplaced 1 0 code ≡ none → misnamed (length ts) [] 0 code ≡ some i → P)
-      → ((i : ℕ) → misplaced 1 0 code ≡ none → misnamed (length ts) [] 0 code ≡ none → unmendable (shapeOf ts) (planOf code) 0 ≡ some i → P)
-      → (misplaced 1 0 code ≡ none → misnamed (length ts) [] 0 code ≡ none → unmendable (shapeOf ts) (planOf code) 0 ≡ none → P)
-      → P
-  judged a b c d =
-      option-cases (misplaced 1 0 code)
-      (λ h. option-cases (misnamed (length ts) [] 0 code) (λ g. option-cases (unmendable (shapeOf ts) (planOf code) 0) (λ f. d h g f) (λ i f. c i h g f)) (λ i g. b i h g))
-      a
+  found-other : (n d : ℕ) → n ≤ 13 → foundVerdict ts ≡ refused n d → ⊥
+  found-other n d l e =
+      elimination-cases (eliminate (shapeOf ts) (length ts)) (λ z hs q. let o : _≡_ {A = ℕ} 0 1 = cc (found-plan q, e) in omega arith)
+      (λ c q. let o : 14 ≡ n = cc (found-none q, e) in omega arith)
 
-  spelled-plan : (s : SpellsPlan code) → planOf code ≡ s .plan
-  spelled-plan s = ap planOf (sym (s .is)) ∙ planOf-encode (s .plan) (s .small)
-
-  -- 7: the bytes go wrong at index i, or end early there
-  pub seven-exactly : (i : ℕ) → (planVerdict ts code ≡ refused 7 i) ↔ FirstMisplaced code i
-  seven-exactly i = (
-    λ e. judged (λ k h. let z : k ≡ i = cc (seven h, e) in (first-misplaced code i) .0 (h ∙ ap some z))
-        (λ k h g. clash (eight h g) e (λ z. omega arith)) (λ k h g f. clash (nine h g f) e (λ z. omega arith)) (λ h g f. let z : _≡_ {A = ℕ} 0 1 = cc (within h g f, e) in absurd (omega arith)),
-    λ f. seven ((first-misplaced code i) .1 f),
+  -- ---- 7, 8 and 9
+  sent-exactly : (n d : ℕ) (X : Type 0) → n ≤ 13 → ((sentVerdict ts code ≡ refused n d) ↔ X) → (planVerdict ts code ≡ refused n d) ↔ ((WithoutPlan ts code → ⊥) × X)
+  sent-exactly n d X l x = (
+    λ e. plan-cases (λ w q. absurd (found-other n d l (sym q ∙ e))) (λ w q. (w, x .0 (sym q ∙ e))),
+    λ y. plan-cases (λ w q. absurd (y .0 w)) (λ w q. q ∙ x .1 (y .1)),
   )
+
+  -- 7: no plan is asked for, and the bytes go wrong at index i, or end early there
+  pub seven-exactly : (i : ℕ) → (planVerdict ts code ≡ refused 7 i) ↔ ((WithoutPlan ts code → ⊥) × FirstMisplaced code i)
+  seven-exactly i = sent-exactly 7 i (FirstMisplaced code i) (omega arith) (sent-seven ts code i)
 
   -- 8: they spell a plan, and the first wrong name is at i, or none is wrong and a table is missing
   pub eight-exactly : (i : ℕ) → (planVerdict ts code ≡ refused 8 i) ↔ (SpellsPlan code × FirstMisnamed (length ts) code i)
-  eight-exactly i = (
-    λ e. judged (λ k h. clash (seven h) e (λ z. omega arith))
-        (λ k h g. let z : k ≡ i = cc (eight h g, e) in ((spelled-exactly code) .0 h, (first-misnamed (length ts) code i) .0 (g ∙ ap some z)))
-        (λ k h g f. clash (nine h g f) e (λ z. omega arith)) (λ h g f. let z : _≡_ {A = ℕ} 0 1 = cc (within h g f, e) in absurd (omega arith)),
-    λ f. eight ((spelled-exactly code) .1 (f .0)) ((first-misnamed (length ts) code i) .1 (f .1)),
-  )
+  eight-exactly i =
+      let x = sent-exactly 8 i (SpellsPlan code × FirstMisnamed (length ts) code i) (omega arith) (sent-eight ts code i) in
+      (λ e. x .0 e .1, λ f. x .1 (spells-plan ts code (f .0), f))
 
   -- 9: they spell a plan that names each table once, and the first FF whose join has a side without a holder is at i
   pub nine-exactly : (i : ℕ) → (planVerdict ts code ≡ refused 9 i) ↔ ((s : SpellsPlan code) × NamedOnce (length ts) (tables (s .plan)) × FirstLacking (shapeOf ts) (s .plan) i)
-  nine-exactly i = (
-    λ e. judged (λ k h. clash (seven h) e (λ z. omega arith)) (λ k h g. clash (eight h g) e (λ z. omega arith))
-        (λ k h g f.
-        let z : k ≡ i = cc (nine h g f, e) in
-        let s = (spelled-exactly code) .0 h in
-        (s, rw (← spelled-plan s) ((plan-named-exactly (length ts) code h) .0 g), rw (← spelled-plan s) ((first-lacking (shapeOf ts) (planOf code) i) .0 (f ∙ ap some z))))
-        (λ h g f. let z : _≡_ {A = ℕ} 0 1 = cc (within h g f, e) in absurd (omega arith)),
-    λ q.
-        let (s, o, f) = q in
-        let h = (spelled-exactly code) .1 s in
-        nine h ((plan-named-exactly (length ts) code h) .1 (rw (spelled-plan s) o)) ((first-lacking (shapeOf ts) (planOf code) i) .1 (rw (spelled-plan s) f)),
+  nine-exactly i =
+      let x = sent-exactly 9 i ((s : SpellsPlan code) × NamedOnce (length ts) (tables (s .plan)) × FirstLacking (shapeOf ts) (s .plan) i) (omega arith) (sent-nine ts code i) in
+      (λ e. x .0 e .1, λ f. x .1 (spells-plan ts code (f .0), f))
+
+  -- ---- 14
+  -- a plan is asked for, and after some steps no table can be hung; d is the lowest number that remains then
+  pub fourteen-exactly : (d : ℕ) → (planVerdict ts code ≡ refused 14 d) ↔ (WithoutPlan ts code × NoneHangs (shapeOf ts) (length ts) d)
+  fourteen-exactly d = (
+    λ e. plan-cases
+        (λ w q. (
+          w,
+          elimination-cases (eliminate (shapeOf ts) (length ts)) (λ z hs r. let o : _≡_ {A = ℕ} 0 1 = cc (found-plan r, q, e) in absurd (omega arith))
+              (λ c r. let o : c ≡ d = cc (found-none r, q, e) in (stuck-exactly (shapeOf ts) (length ts) d (w .present)) .0 (r ∙ ap stuck o)),
+        ))
+        (λ w q. absurd (sent-other ts code 14 d (omega arith) (sym q ∙ e))),
+    λ x. asked (x .0) ∙ found-none ((stuck-exactly (shapeOf ts) (length ts) d (x .0 .present)) .1 (x .1)),
   )
 
-  -- within the rules: they spell a plan that names each table once and can be mended, and the mended one is followed
-  pub within-exactly : (p : Plan) → (planVerdict ts code ≡ admitted ts p) ↔ ((s : SpellsPlan code) × NamedOnce (length ts) (tables (s .plan)) × Mendable (shapeOf ts) (s .plan) × (mend (shapeOf ts) (s .plan) ≡ p))
+  -- a plan is asked for, and "no well-behaved plan over these tables exists"
+  pub no-plan-exactly : ((d : ℕ) × (planVerdict ts code ≡ refused 14 d)) ↔ (WithoutPlan ts code × NoPlan ts)
+  no-plan-exactly = (
+    λ x.
+        let (d, e) = x in
+        let (w, h) = (fourteen-exactly d) .0 e in
+        (w, stuck-none (length ts) (shapeOf ts) d (w .present) ((stuck-exactly (shapeOf ts) (length ts) d (w .present)) .1 h)),
+    λ x.
+        let (w, f) = x in
+        elimination-cases (eliminate (shapeOf ts) (length ts))
+        (λ z hs r.
+        let (s, b) = rooted-plan (length ts) (shapeOf ts) z hs (w .present) r in
+        absurd (f (planUnder hs z) (sums-named (length ts) (tables (planUnder hs z)) s) b))
+        (λ d r. (d, asked w ∙ found-none r)),
+  )
+
+  -- ---- within the rules
+  -- the plan that is followed is the one sent, mended, or the one found
+  pub within-exactly : (p : Plan) → (planVerdict ts code ≡ admitted ts p) ↔ Followed ts code p
   within-exactly p = (
-    λ e. judged (λ k h. other (seven h) e) (λ k h g. other (eight h g) e) (λ k h g f. other (nine h g f) e)
-        (λ h g f.
-        let z : mend (shapeOf ts) (planOf code) ≡ p = cc (within h g f, e) in
-        let s = (spelled-exactly code) .0 h in
-        (s, rw (← spelled-plan s) ((plan-named-exactly (length ts) code h) .0 g), rw (← spelled-plan s) ((mendable-exactly (shapeOf ts) (planOf code)) .0 f), rw (← spelled-plan s) z)),
-    λ q.
-        let (s, o, m, z) = q in
-        let h = (spelled-exactly code) .1 s in
-        within h ((plan-named-exactly (length ts) code h) .1 (rw (spelled-plan s) o)) ((mendable-exactly (shapeOf ts) (planOf code)) .1 (rw (spelled-plan s) m))
-        ∙ ap (λ x. admitted ts (mend (shapeOf ts) x)) (spelled-plan s) ∙ ap (admitted ts) z,
+    λ e. plan-cases
+        (λ w q. elimination-cases (eliminate (shapeOf ts) (length ts))
+        (λ z hs r.
+        let o : planUnder hs z ≡ p = cc (found-plan r, q, e) in
+        found w (record { root = z; hung = hs; remains = (rooted-exactly (shapeOf ts) (length ts) z hs (w .present)) .0 r; is = o }))
+        (λ d r. let o : _≡_ {A = ℕ} 0 1 = cc (found-none r, q, e) in absurd (omega arith)))
+        (λ w q. let (s, o, m, z) = (sent-within ts code p) .0 (sym q ∙ e) in mended s o m z),
+    back,
   )
     where
-      other : {P : Type 0} {v : Verdict} {n d : ℕ} → v ≡ refused n d → v ≡ admitted ts p → P
-      other e f = let z : _≡_ {A = ℕ} 0 1 = cc in absurd (omega arith)
+      back : Followed ts code p → planVerdict ts code ≡ admitted ts p
+      back (mended s o m z) = plan-cases (λ w q. absurd (spells-plan ts code s w)) (λ w q. q ∙ (sent-within ts code p) .1 (s, o, m, z))
+      back (found w x) =
+          asked w ∙ found-plan ((rooted-exactly (shapeOf ts) (length ts) (x .root) (x .hung) (w .present)) .1 (x .remains)) ∙ ap (admitted ts) (x .is)
 
 -- ---- of a file: past 6, the bytes of its plan decide
 module _ (bytes : List ℕ) where
@@ -124,8 +157,9 @@ module _ (bytes : List ℕ) where
     λ r. rules-plan (r .reads) ∙ (x (r .code)) .1 (r .has),
   )
 
-  pub file-seven : (i : ℕ) → (rulesVerdict bytes ≡ refused 7 i) ↔ ReadsPlan bytes (λ code. FirstMisplaced code i)
-  file-seven i = past-six (refused 7 i) (λ code. FirstMisplaced code i) (λ n d e. let z : 7 ≡ n = cc in omega arith) (λ code. seven-exactly ts code i)
+  pub file-seven : (i : ℕ) → (rulesVerdict bytes ≡ refused 7 i) ↔ ReadsPlan bytes (λ code. (WithoutPlan ts code → ⊥) × FirstMisplaced code i)
+  file-seven i =
+      past-six (refused 7 i) (λ code. (WithoutPlan ts code → ⊥) × FirstMisplaced code i) (λ n d e. let z : 7 ≡ n = cc in omega arith) (λ code. seven-exactly ts code i)
 
   pub file-eight : (i : ℕ) → (rulesVerdict bytes ≡ refused 8 i) ↔ ReadsPlan bytes (λ code. SpellsPlan code × FirstMisnamed (length ts) code i)
   file-eight i = past-six (refused 8 i) (λ code. SpellsPlan code × FirstMisnamed (length ts) code i) (λ n d e. let z : 8 ≡ n = cc in omega arith) (λ code. eight-exactly ts code i)
@@ -135,7 +169,17 @@ module _ (bytes : List ℕ) where
       past-six (refused 9 i) (λ code. (s : SpellsPlan code) × NamedOnce (length ts) (tables (s .plan)) × FirstLacking (shapeOf ts) (s .plan) i) (λ n d e. let z : 9 ≡ n = cc in omega arith)
       (λ code. nine-exactly ts code i)
 
-  pub file-within : (p : Plan) → (rulesVerdict bytes ≡ admitted ts p) ↔ ReadsPlan bytes (λ code. (s : SpellsPlan code) × NamedOnce (length ts) (tables (s .plan)) × Mendable (shapeOf ts) (s .plan) × (mend (shapeOf ts) (s .plan) ≡ p))
-  file-within p =
-      past-six (admitted ts p) (λ code. (s : SpellsPlan code) × NamedOnce (length ts) (tables (s .plan)) × Mendable (shapeOf ts) (s .plan) × (mend (shapeOf ts) (s .plan) ≡ p)) (λ n d e. let z : _≡_ {A = ℕ} 0 1 = cc in absurd (omega arith))
-      (λ code. within-exactly ts code p)
+  pub file-fourteen : (d : ℕ) → (rulesVerdict bytes ≡ refused 14 d) ↔ ReadsPlan bytes (λ code. WithoutPlan ts code × NoneHangs (shapeOf ts) (length ts) d)
+  file-fourteen d =
+      past-six (refused 14 d) (λ code. WithoutPlan ts code × NoneHangs (shapeOf ts) (length ts) d) (λ n c e. let z : 14 ≡ n = cc in omega arith) (λ code. fourteen-exactly ts code d)
+
+  pub file-no-plan : ((d : ℕ) × (rulesVerdict bytes ≡ refused 14 d)) ↔ ReadsPlan bytes (λ code. WithoutPlan ts code × NoPlan ts)
+  file-no-plan = (
+    λ x.
+        let r = (file-fourteen (x .0)) .0 (x .1) in
+        record { code = r .code; reads = r .reads; has = (no-plan-exactly ts (r .code)) .0 (x .0, (fourteen-exactly ts (r .code) (x .0)) .1 (r .has)) },
+    λ r. let (d, e) = (no-plan-exactly ts (r .code)) .1 (r .has) in (d, rules-plan (r .reads) ∙ e),
+  )
+
+  pub file-within : (p : Plan) → (rulesVerdict bytes ≡ admitted ts p) ↔ ReadsPlan bytes (λ code. Followed ts code p)
+  file-within p = past-six (admitted ts p) (λ code. Followed ts code p) (λ n d e. let z : _≡_ {A = ℕ} 0 1 = cc in absurd (omega arith)) (λ code. within-exactly ts code p)

@@ -2,6 +2,7 @@
 use mathlib.Core.Path.{_≡_, refl, sym, ap, _∙_}
 use mathlib.Core.Bool.{true, false, not}
 use mathlib.Core.List.{List, [], _∷_}
+use mathlib.Core.Logic.{inl, inr}
 use mathlib.Core.Option.{none, some}
 use Prim.Native.Nat.{ℕ, _+_, _≤_, _<_}
 use native.Mathlib.Omega.{arith}
@@ -13,32 +14,38 @@ use Rattle.semantics.specs.Files.{Table, hasBit, Reading, fault, planByt
 use Rattle.semantics.specs.Plans.{Plan, tables, misplaced, planOf, misnamed}
 use Rattle.semantics.specs.Shapes.{noTable, shapeOf, holds, rowsIn, scratchNeed}
 use Rattle.semantics.specs.Mending.{unmendable}
-use Rattle.semantics.specs.Outcome.{Verdict, refused, admitted, planVerdict, readVerdict, rulesVerdict, scratchVerdict, verdict, WithinRules}
-use Rattle.semantics.proofs.Cases.{cases, option-cases}
-use Rattle.semantics.proofs.Lists.{sum-one, any-sum, length-filter-sum}
+use Rattle.semantics.specs.Elimination.{Hanging, rooted, eliminate, planUnder}
+use Rattle.semantics.specs.Outcome.{Verdict, refused, admitted, BeforeTen, ThroughTen, sentVerdict, foundVerdict, asksForPlan, planVerdict, readVerdict, rulesVerdict, scratchVerdict, verdict, WithinRules}
+use Rattle.semantics.proofs.Cases.{cases, option-cases, true-false}
+use Rattle.semantics.proofs.Lists.{Each-map, sum-one, any-sum, length-filter-sum}
 use Rattle.semantics.proofs.Numbers.{length-from, sum-shift}
-use Rattle.semantics.proofs.Reading.{ending-cases, fault-number}
+use Rattle.semantics.proofs.Reading.{ending-cases, fault-number, tables-few}
 use Rattle.semantics.proofs.Spelling.{spelled-out}
 use Rattle.semantics.proofs.Naming.{plan-names, plan-sum, not-misnamed}
 use Rattle.semantics.proofs.Mending.{mend-sum, mend-each, mend-wellBehaved}
 use Rattle.semantics.proofs.Mendable.{unmendable-mendable, mend-small}
+use Rattle.semantics.proofs.FoundPlans.{elimination-cases, sums-named, rooted-plan, small-tables}
 
 pub verdict-cases : {P : Type 0} (v : Verdict) → ((n d : ℕ) → v ≡ refused n d → P) → ((ts : List Table) (p : Plan) → v ≡ admitted ts p → P) → P
 verdict-cases (refused n d) f g = f n d refl
 verdict-cases (admitted ts p) f g = g ts p refl
 
--- ---- a verdict: what is admitted is within the rules, and the number of a refusal lies in a range
-abbrev Judged : ℕ → ℕ → List Table → Verdict → Type 0
-Judged low high us (refused n d) = (low ≤ n) × (n ≤ high)
-Judged low high us (admitted ts p) = (ts ≡ us) × WithinRules ts p
+-- ---- a verdict: what is admitted is within the rules, and the number of a refusal is one of some numbers
+abbrev Judged : (ℕ → Type 0) → List Table → Verdict → Type 0
+Judged N us (refused n d) = N n
+Judged N us (admitted ts p) = (ts ≡ us) × WithinRules ts p
 
-plan-judged : (ts : List Table) (code : List ℕ) → Judged 7 9 ts (planVerdict ts code)
-unfolding planVerdict
-plan-judged ts code =
+widen : (N M : ℕ → Type 0) (us : List Table) → ((n : ℕ) → N n → M n) → (v : Verdict) → Judged N us v → Judged M us v
+widen N M us f (refused n d) j = f n j
+widen N M us f (admitted ts p) j = j
+
+sent-judged : (ts : List Table) (code : List ℕ) → Judged (λ n. (7 ≤ n) × (n ≤ 9)) ts (sentVerdict ts code)
+unfolding sentVerdict
+sent-judged ts code =
     option-cases (misplaced 1 0 code)
     (λ h. option-cases (misnamed (length ts) [] 0 code)
     (λ g. option-cases (unmendable (shapeOf ts) (planOf code) 0)
-    (λ f. rw (h, g, f, planVerdict) (
+    (λ f. rw (h, g, f, sentVerdict) (
       refl,
       record {
         small = mend-small (shapeOf ts) (planOf code) ((spelled-out code h) .0);
@@ -47,35 +54,61 @@ plan-judged ts code =
         behaved = mend-wellBehaved (shapeOf ts) (planOf code) (unmendable-mendable (shapeOf ts) (planOf code) 0 f);
       },
     ))
-    (λ i f. rw (h, g, f, planVerdict) (omega arith)))
-    (λ i g. rw (h, g, planVerdict) (omega arith)))
-    (λ i h. rw (h, planVerdict) (omega arith))
+    (λ i f. rw (h, g, f, sentVerdict) (omega arith)))
+    (λ i g. rw (h, g, sentVerdict) (omega arith)))
+    (λ i h. rw (h, sentVerdict) (omega arith))
 
-widen : (low low′ high high′ : ℕ) (us : List Table) → low′ ≤ low → high ≤ high′ → (v : Verdict) → Judged low high us v → Judged low′ high′ us v
-widen low low′ high high′ us a b (refused n d) j = omega arith
-widen low low′ high high′ us a b (admitted ts p) j = j
+-- the plan that is found is within the rules
+rooted-within : (ts : List Table) (z : ℕ) (hs : List Hanging) → 0 < length ts → length ts ≤ 16 → eliminate (shapeOf ts) (length ts) ≡ rooted z hs → WithinRules ts (planUnder hs z)
+rooted-within ts z hs l few e =
+    let (s, w) = rooted-plan (length ts) (shapeOf ts) z hs l e in
+    let o = sums-named (length ts) (tables (planUnder hs z)) s in
+    record {
+      small = small-tables (planUnder hs z) (Each-map (λ t. t < length ts) (λ t. t < 16) (λ t h. omega arith) (tables (planUnder hs z)) (o .present));
+      named = o .present;
+      sums = s;
+      behaved = w;
+    }
 
-rules-judged : (bytes : List ℕ) → Judged 1 9 ((read bytes) .tables) (rulesVerdict bytes)
+found-judged : (ts : List Table) → 0 < length ts → length ts ≤ 16 → Judged (λ n. n ≡ 14) ts (foundVerdict ts)
+unfolding foundVerdict
+found-judged ts l few =
+    elimination-cases (eliminate (shapeOf ts) (length ts)) (λ z hs e. rw (e, foundVerdict) (refl, rooted-within ts z hs l few e)) (λ d e. rw (e, foundVerdict) refl)
+
+-- the plan is asked for only where there are tables
+asks-tables : (ts : List Table) (code : List ℕ) → asksForPlan ts code ≡ true → 0 < length ts
+unfolding asksForPlan
+asks-tables [] code e = absurd (true-false false e refl)
+asks-tables (t ∷ ts) code e = omega arith
+
+plan-judged : (ts : List Table) (code : List ℕ) → length ts ≤ 16 → Judged BeforeTen ts (planVerdict ts code)
+unfolding planVerdict
+plan-judged ts code few =
+    cases (asksForPlan ts code)
+    (λ h. rw (h, planVerdict) (widen (λ n. n ≡ 14) BeforeTen ts (λ n e. inr e) (foundVerdict ts) (found-judged ts (asks-tables ts code h) few)))
+    (λ h. rw (h, planVerdict) (widen (λ n. (7 ≤ n) × (n ≤ 9)) BeforeTen ts (λ n e. inl (omega (arith, e .0), e .1)) (sentVerdict ts code) (sent-judged ts code)))
+
+rules-judged : (bytes : List ℕ) → Judged BeforeTen ((read bytes) .tables) (rulesVerdict bytes)
 unfolding rulesVerdict readVerdict
 rules-judged bytes =
     ending-cases ((read bytes) .ending)
-    (λ n d e. let h : (1 ≤ n) × (n ≤ 6) = fault-number bytes n d e in rw (e, readVerdict) (omega arith))
-    (λ code e. rw (e, readVerdict) (widen 7 1 9 9 ((read bytes) .tables) (omega arith) (omega arith) (planVerdict ((read bytes) .tables) code) (plan-judged ((read bytes) .tables) code)))
+    (λ n d e. let h : (1 ≤ n) × (n ≤ 6) = fault-number bytes n d e in rw (e, readVerdict) (inl (h .0, omega (arith, h .1))))
+    (λ code e. rw (e, readVerdict) (plan-judged ((read bytes) .tables) code (tables-few bytes)))
 
-scratch-judged : (words : ℕ) (us : List Table) (v : Verdict) → Judged 1 9 us v → Judged 1 10 us (scratchVerdict words v)
+scratch-judged : (words : ℕ) (us : List Table) (v : Verdict) → Judged BeforeTen us v → Judged ThroughTen us (scratchVerdict words v)
 unfolding scratchVerdict
-scratch-judged words us (refused n d) j = omega arith
-scratch-judged words us (admitted ts p) j = cases (ltb words (scratchNeed ts p)) (λ h. rw (h, scratchVerdict) (omega arith)) (λ h. rw (h, scratchVerdict) j)
+scratch-judged words us (refused n d) j = inl j
+scratch-judged words us (admitted ts p) j = cases (ltb words (scratchNeed ts p)) (λ h. rw (h, scratchVerdict) (inr refl)) (λ h. rw (h, scratchVerdict) j)
 
-verdict-judged : (bytes : List ℕ) (words : ℕ) → Judged 1 10 ((read bytes) .tables) (verdict bytes words)
+verdict-judged : (bytes : List ℕ) (words : ℕ) → Judged ThroughTen ((read bytes) .tables) (verdict bytes words)
 unfolding verdict
 verdict-judged bytes words = scratch-judged words ((read bytes) .tables) (rulesVerdict bytes) (rules-judged bytes)
 
 -- ---- as users read it
-pub plan-within : (ts us : List Table) (code : List ℕ) (p : Plan) → planVerdict ts code ≡ admitted us p → (us ≡ ts) × WithinRules us p
-plan-within ts us code p e = rw e at (plan-judged ts code)
+pub plan-within : (ts us : List Table) (code : List ℕ) (p : Plan) → length ts ≤ 16 → planVerdict ts code ≡ admitted us p → (us ≡ ts) × WithinRules us p
+plan-within ts us code p few e = rw e at (plan-judged ts code few)
 
-pub rules-number : (bytes : List ℕ) (n d : ℕ) → rulesVerdict bytes ≡ refused n d → (1 ≤ n) × (n ≤ 9)
+pub rules-number : (bytes : List ℕ) (n d : ℕ) → rulesVerdict bytes ≡ refused n d → BeforeTen n
 rules-number bytes n d e = rw e at (rules-judged bytes)
 
 pub rules-tables : (bytes : List ℕ) (ts : List Table) (p : Plan) → rulesVerdict bytes ≡ admitted ts p → ts ≡ (read bytes) .tables
@@ -84,8 +117,14 @@ rules-tables bytes ts p e = (rw e at (rules-judged bytes)) .0
 pub rules-within : (bytes : List ℕ) (ts : List Table) (p : Plan) → rulesVerdict bytes ≡ admitted ts p → WithinRules ts p
 rules-within bytes ts p e = (rw e at (rules-judged bytes)) .1
 
-pub verdict-number : (bytes : List ℕ) (words n d : ℕ) → verdict bytes words ≡ refused n d → (1 ≤ n) × (n ≤ 10)
+pub verdict-number : (bytes : List ℕ) (words n d : ℕ) → verdict bytes words ≡ refused n d → ThroughTen n
 verdict-number bytes words n d e = rw e at (verdict-judged bytes words)
+
+-- such a number is none of those that are given later
+pub through-ten : (n : ℕ) → ThroughTen n → (1 ≤ n) × (n ≡ 11 → ⊥) × (n ≡ 12 → ⊥)
+through-ten n (inl (inl h)) = (h .0, λ e. omega (arith, h .1), λ e. omega (arith, h .1))
+through-ten n (inl (inr h)) = (omega arith, λ e. omega arith, λ e. omega arith)
+through-ten n (inr h) = (omega arith, λ e. omega arith, λ e. omega arith)
 
 pub verdict-within : (bytes : List ℕ) (words : ℕ) (ts : List Table) (p : Plan) → verdict bytes words ≡ admitted ts p → WithinRules ts p
 verdict-within bytes words ts p e = (rw e at (verdict-judged bytes words)) .1

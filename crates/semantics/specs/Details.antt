@@ -1,17 +1,19 @@
--- Words for the answers 7, 8 and 9 and their details, without the recursions that decide them. That the two say the same is
--- shown in `proofs/Misplaced.antt`, `proofs/Misnamed.antt`, `proofs/Lacking.antt` and, for a whole file, `proofs/PlanAnswers.antt`.
+-- Words for the answers 7, 8, 9 and 14 and their details, without the recursions that decide them. That the two say the same is shown
+-- in `proofs/Misplaced.antt`, `proofs/Misnamed.antt`, `proofs/Lacking.antt`, `proofs/Eliminating.antt` and, for a whole file,
+-- `proofs/PlanAnswers.antt`.
 use mathlib.Core.Path.{_≡_}
 use mathlib.Core.Bool.{Bool, true, false, _&&_, _||_, not}
-use mathlib.Core.List.{List, _++_}
+use mathlib.Core.List.{List, [], _∷_, _++_}
 use mathlib.Core.Logic.{_⊎_}
 use Prim.Native.Nat.{ℕ, suc, _+_, _≤_, _<_}
 use lib.ListN.{length, take, getD}
 use lib.Dec.{eqb, ltb}
-use Rattle.semantics.specs.Lists.{Each, any, filter}
-use Rattle.semantics.specs.Files.{planBytes, read}
+use Rattle.semantics.specs.Lists.{Each, any, filter, upTo, member}
+use Rattle.semantics.specs.Files.{Table, planBytes, read}
 use Rattle.semantics.specs.Plans.{Plan, join, encode, tables, Small}
-use Rattle.semantics.specs.Shapes.{Shape, joinAttributes}
-use Rattle.semantics.specs.Mending.{holdsAll}
+use Rattle.semantics.specs.Shapes.{Shape, joinAttributes, shapeOf, WellBehaved}
+use Rattle.semantics.specs.Mending.{holdsAll, mend, Mendable}
+use Rattle.semantics.specs.Elimination.{Hanging, without, planUnder}
 
 -- ---- 7
 -- the bytes spell one plan
@@ -82,6 +84,58 @@ pub record FirstLacking (S : Shape) (p : Plan) (i : ℕ) : Type 0 where
   pub stands : Stands (join left right) p i
   pub lacks : LacksHolder S left right
   pub before : (l r : Plan) (j : ℕ) → Stands (join l r) p j → j < i → LacksHolder S l r → ⊥
+
+-- ---- 14
+-- request U4: "a plan of length 0 with at least one table"
+pub record WithoutPlan (ts : List Table) (code : List ℕ) : Type 0 where
+  pub present : 0 < length ts
+  pub empty : code ≡ []
+
+-- the table e can hang under f: the "shared attributes" of e, "those some other remaining table has, all lie in" f, "one other remaining
+-- table"; M says which tables remain
+pub record Ear (S : Shape) (M : ℕ → Bool) (e f : ℕ) : Type 0 where
+  pub inside : M e ≡ true
+  pub parent : M f ≡ true
+  pub apart : f ≡ e → ⊥
+  pub covers : (a u : ℕ) → a < 32 → S .has e a ≡ true → M u ≡ true → (u ≡ e → ⊥) → S .has u a ≡ true → S .has f a ≡ true
+
+-- "the lowest-numbered table" that can hang "hangs under the lowest-numbered such table"
+pub record NextHung (S : Shape) (rest : List ℕ) (h : Hanging) : Type 0 where
+  pub hangs : Ear S (member rest) (h .child) (h .parent)
+  pub lowestChild : (t u : ℕ) → t < h .child → Ear S (member rest) t u → ⊥
+  pub lowestParent : (u : ℕ) → u < h .parent → Ear S (member rest) (h .child) u → ⊥
+
+module _ (S : Shape) (n : ℕ) where
+  -- "repeatedly", of the tables 0 to n - 1: what remains then, and what was hung, the latest first
+  pub data Remains : List ℕ → List Hanging → Type 0 where
+    start : Remains (upTo n) []
+    hung : {rest : List ℕ} {hs : List Hanging} {h : Hanging} → Remains rest hs → NextHung S rest h → Remains (without (h .child) rest) (h ∷ hs)
+
+  -- "no table can be hung; detail, the lowest remaining number"
+  pub record NoneHangs (d : ℕ) : Type 0 where
+    pub rest : List ℕ
+    pub hung : List Hanging
+    pub remains : Remains rest hung
+    pub several : 2 ≤ length rest
+    pub none : (t u : ℕ) → Ear S (member rest) t u → ⊥
+    pub there : member rest d ≡ true
+    pub lowest : (t : ℕ) → member rest t ≡ true → d ≤ t
+
+  -- "the last one is the root": the plan of it and of what hangs under it
+  pub record FoundPlan (p : Plan) : Type 0 where
+    pub root : ℕ
+    pub hung : List Hanging
+    pub remains : Remains (root ∷ []) hung
+    pub is : planUnder hung root ≡ p
+
+-- "no well-behaved plan over these tables exists"
+abbrev pub NoPlan : List Table → Type 0
+NoPlan ts = (p : Plan) → NamedOnce (length ts) (tables p) → WellBehaved (shapeOf ts) p → ⊥
+
+-- the plan p is followed for these tables and bytes: the one sent, mended, or the one found
+pub data Followed (ts : List Table) (code : List ℕ) (p : Plan) : Type 0 where
+  mended : (s : SpellsPlan code) → NamedOnce (length ts) (tables (s .plan)) → Mendable (shapeOf ts) (s .plan) → mend (shapeOf ts) (s .plan) ≡ p → Followed ts code p
+  found : WithoutPlan ts code → FoundPlan (shapeOf ts) (length ts) p → Followed ts code p
 
 -- ---- of a file
 -- no number up to 6 is due, and the n bytes of the plan have the property

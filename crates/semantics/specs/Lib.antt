@@ -11,6 +11,7 @@ pub mod Counts
 pub mod Bags
 pub mod Rows
 pub mod Enumeration
+pub mod Elimination
 pub mod Details
 pub mod Outcome
 pub mod Samples

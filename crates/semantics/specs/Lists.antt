@@ -1,6 +1,7 @@
 -- Lists tested by Booleans, sums over lists, and rows of numbers.
 use mathlib.Core.Bool.{Bool, true, false, _&&_, _||_}
 use mathlib.Core.List.{List, [], _∷_, _++_}
+use mathlib.Core.Option.{Option, none, some}
 use Prim.Native.Nat.{ℕ, zero, suc, _+_, _*_, _<_}
 use lib.Dec.{eqb}
 
@@ -26,6 +27,11 @@ module _ {A : Type 0} where
   abbrev pub any : (A → Bool) → List A → Bool
   any p [] = false
   any p (x ∷ xs) = p x || any p xs
+
+  -- the first element that passes the test
+  abbrev pub first : (A → Bool) → List A → Option A
+  first p [] = none
+  first p (x ∷ xs) = elim (p x) [ true ↦ some x | false ↦ first p xs ]
 
   abbrev pub sum : (A → ℕ) → List A → ℕ
   sum f [] = 0
@@ -74,6 +80,10 @@ same [] [] = true
 same [] (y ∷ ys) = false
 same (x ∷ xs) [] = false
 same (x ∷ xs) (y ∷ ys) = eqb x y && same xs ys
+
+-- the number stands in the list
+abbrev pub member : List ℕ → ℕ → Bool
+member xs x = any (eqb x) xs
 
 -- one list is the other in another order
 pub data Permutation : List ℕ → List ℕ → Type 0 where
