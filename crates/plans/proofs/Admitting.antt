@@ -13,6 +13,7 @@ use Rattle.semantics.specs.Shapes.{Shape, noTable, shapeOf}
 use Rattle.semantics.specs.Outcome.{refused, planVerdict}
 use Rattle.semantics.proofs.Cases.{cases, option-cases}
 use Rattle.words.specs.Arrays.{padded}
+use Rattle.words.specs.Masks.{Masked}
 use Rattle.words.proofs.Arrays.{padded-at}
 use Rattle.tables.specs.declared.Catalog.{Catalog}
 use Rattle.tables.specs.Catalogs.{catalogOf}
@@ -22,7 +23,7 @@ use Rattle.mending.specs.Places.{PlanAt, Planned}
 use Rattle.mending.specs.Lacking.{foundOf}
 use Rattle.mending.proofs.Lacks.{found-none, found-at}
 use Rattle.plans.specs.declared.admission.Check.the-variants as check
-use Rattle.plans.specs.Judging.{wellBehaved, Masked}
+use Rattle.plans.specs.Judging.{wellBehaved}
 use Rattle.plans.specs.Admissions.{Tabled, Catalogued, checkOf, Named}
 use Rattle.mending.proofs.Places.{spelled-stands}
 

@@ -9,6 +9,7 @@ use lib.Bits.{bitAnd, bitOr}
 use Rattle.semantics.specs.Files.{hasBit}
 use Rattle.semantics.specs.Plans.{Plan, scan, join, leftmost}
 use Rattle.semantics.specs.Shapes.{Shape, holds, behaves}
+use Rattle.words.specs.Masks.{Masked}
 use Rattle.plans.specs.declared.behaviour.Subplan.{Subplan}
 
 -- the plan is well-behaved, as a test
@@ -24,11 +25,6 @@ behavesBy l r m n =
 -- the join of two plans whose leftmost tables have these masks
 abbrev pub joinedOf : Subplan → Subplan → ℕ → ℕ → Subplan
 joinedOf l r m n = record { attributes = bitOr (l .attributes) (r .attributes); leftmost = l .leftmost; next = r .next; behaved = behavesBy l r m n }
-
--- the masks are those of the tables of the shape
-pub record Masked (masks : List ℕ) (S : Shape) : Type 0 where
-  pub bits : (t a : ℕ) → t < 16 → S .has t a ≡ hasBit (getD masks t 0) a
-  pub words : (t : ℕ) → t < 16 → getD masks t 0 < 2 ^ 32
 
 -- what the tables of the shape make of the plan p
 pub record Ruled (S : Shape) (p : Plan) (r : Subplan) : Type 0 where

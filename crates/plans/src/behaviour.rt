@@ -5,7 +5,8 @@ ghost use lib.ListN.{length};
 ghost use Rattle.semantics.specs.Plans.{Plan};
 ghost use Rattle.semantics.specs.Shapes.{Shape};
 ghost use Rattle.mending.specs.Places.{PlanAt, Planned};
-ghost use Rattle.plans.specs.Judging.{behavesBy, wellBehaved, Masked, Judged};
+ghost use Rattle.plans.specs.Judging.{behavesBy, wellBehaved, Judged};
+ghost use Rattle.words.specs.Masks.{Masked};
 
 // A plan inside the plan: the attributes of its tables, its leftmost table, the index behind it, and whether it is well-behaved.
 pub struct Subplan {

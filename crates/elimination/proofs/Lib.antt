@@ -1,0 +1,5 @@
+pub mod Covering
+pub mod Hanging
+pub mod PlanBytes
+pub mod Written
+pub mod Searches

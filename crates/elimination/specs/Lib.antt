@@ -1,0 +1,4 @@
+pub mod Parents
+pub mod Steps
+pub mod Writing
+pub mod Searches

@@ -1,0 +1,59 @@
+-- What the repeated step promises.
+use mathlib.Core.Path.{_≡_}
+use mathlib.Core.Bool.{Bool, true, false, _&&_, _||_}
+use mathlib.Core.List.{List, [], _∷_}
+use mathlib.Core.Option.{Option, none, some}
+use Prim.Native.Nat.{ℕ, suc, _-_, _≤_, _<_}
+use lib.ListN.{length, getD}
+use lib.Dec.{eqb}
+use Rattle.semantics.specs.Lists.{filter, from}
+use Rattle.semantics.specs.Shapes.{Shape}
+use Rattle.semantics.specs.Elimination.{Hanging, Elimination, rooted, stuck, lowest, nextOf, hangAll, eliminate}
+use Rattle.words.specs.Masks.{Masked}
+use Rattle.elimination.specs.Parents.{remaining}
+use Rattle.elimination.specs.declared.steps.Hung.{Hung}
+use Rattle.elimination.specs.declared.steps.Next.{Next}
+use Rattle.elimination.specs.declared.steps.Next.the-variants as next
+
+abbrev pub nextFound : Option Hanging → Next
+nextFound none = next.Nothing
+nextFound (some h) = next.Hang (h .child) (h .parent)
+
+-- none of the remaining tables below t can be hung
+pub record Unhung (masks : List ℕ) (flags : List Bool) (n t : ℕ) : Type 0 where
+  pub within : t ≤ n
+  pub ahead : (S : Shape) → Masked masks S → nextOf S (remaining n flags) (remaining n flags) ≡ nextOf S (remaining n flags) (filter (λ v. getD flags v false) (from t (n - t)))
+
+-- ---- the whole
+-- the masks are those of the tables of some shape
+abbrev pub Shaped : List ℕ → Type 0
+Shaped masks = (S : Shape) × Masked masks S
+
+-- c hangs under t (for the writer of the plan's bytes)
+abbrev pub hungUnder : List Hanging → ℕ → ℕ → Bool
+hungUnder [] t c = false
+hungUnder (h ∷ hs) t c = (eqb c (h .child) && eqb t (h .parent)) || hungUnder hs t c
+
+-- the parents are those of what was hung
+abbrev pub ParentsOf : List ℕ → List Hanging → Type 0
+ParentsOf parents hs = (t c : ℕ) → t < 16 → c < 16 → eqb (getD parents c 0) t ≡ hungUnder hs t c
+
+-- the answer of the hanging
+abbrev pub HungAs : Hung → Elimination → Type 0
+HungAs r (rooted t hs) = (r .stuck ≡ false) × (r .table ≡ t) × ParentsOf (r .parents) hs
+HungAs r (stuck d) = (r .stuck ≡ true) × (r .table ≡ d)
+
+-- no table below t remains
+pub record Gone (flags : List Bool) (n t : ℕ) : Type 0 where
+  pub within : t ≤ n
+  pub ahead : lowest (remaining n flags) ≡ lowest (filter (λ v. getD flags v false) (from t (n - t)))
+
+-- m tables are still to hang
+pub record Hanged (masks : List ℕ) (n : ℕ) (flags : List Bool) (parents : List ℕ) (m : ℕ) : Type 0 where
+  pub hung : List Hanging
+  pub sizes : (length flags ≡ 16) × (length parents ≡ 16)
+  pub long : length (remaining n flags) ≡ suc m
+  pub named : ParentsOf parents hung
+  pub free : (t : ℕ) → t < 16 → getD flags t false ≡ true → getD parents t 0 ≡ 16
+  pub ahead : (S : Shape) → Masked masks S → eliminate S n ≡ hangAll S m (remaining n flags) hung
+
