@@ -39,4 +39,3 @@ pub record Gathered (masks : List ℕ) (flags : List Bool) (n t u have : ℕ) : 
 pub record Uncovered (masks : List ℕ) (flags : List Bool) (n t m u : ℕ) : Type 0 where
   pub within : u ≤ n
   pub ahead : firstCovering masks (remaining n flags) t m ≡ firstCovering masks (filter (λ v. getD flags v false) (from u (n - u))) t m
-

@@ -56,4 +56,3 @@ pub record Hanged (masks : List ℕ) (n : ℕ) (flags : List Bool) (parents : Li
   pub named : ParentsOf parents hung
   pub free : (t : ℕ) → t < 16 → getD flags t false ≡ true → getD parents t 0 ≡ 16
   pub ahead : (S : Shape) → Masked masks S → eliminate S n ≡ hangAll S m (remaining n flags) hung
-

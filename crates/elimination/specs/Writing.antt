@@ -56,4 +56,3 @@ plansBelow parents n t hs c = replicate (childCount parents t n) 255 ++ (t ∷ c
 pub record Planning (parents : List ℕ) (n t : ℕ) (old : List ℕ) (at : ℕ) (code : List ℕ) (next c : ℕ) : Type 0 where
   pub within : c ≤ n
   pub wrote : (hs : List Hanging) → HungOnce n hs → ParentsOf parents hs → Wrote old at (plansBelow parents n t hs c) code next
-

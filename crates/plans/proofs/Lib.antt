@@ -8,6 +8,7 @@ pub mod Whole
 pub mod Admitting
 pub mod Scratch
 pub mod Sending
+pub mod Formed
 pub mod Verdicts
 pub mod Segments
 pub mod ByNumber

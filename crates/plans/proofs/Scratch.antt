@@ -9,10 +9,10 @@ use borrow.Author.Tests.{lt-ltb, le-ltb}
 use Rattle.semantics.specs.Files.{Table}
 use Rattle.semantics.specs.Plans.{Plan, scan, join, tables, leftmost, planOf}
 use Rattle.semantics.specs.Shapes.{noTable, shapeOf, scratchNeed}
-use Rattle.semantics.specs.Outcome.{refused, admitted, planVerdict, scratchVerdict, WithinRules}
+use Rattle.semantics.specs.Outcome.{refused, admitted, sentVerdict, planVerdict, scratchVerdict, WithinRules}
 use Rattle.semantics.proofs.Mending.{mend-same}
 use Rattle.semantics.proofs.Mendable.{mendable-unmendable, wellBehaved-mendable}
-use Rattle.semantics.proofs.Rules.{tables-count, rows-count, plan-within}
+use Rattle.semantics.proofs.Rules.{tables-count, rows-count, plan-sent, plan-within}
 use Rattle.words.specs.Arrays.{padded}
 use Rattle.words.proofs.Arrays.{padded-at}
 use Rattle.tables.specs.declared.Catalog.{Catalog}
@@ -23,12 +23,13 @@ use Rattle.plans.specs.declared.admission.Check.the-variants as check
 use Rattle.plans.specs.declared.admission.Admission.{Admission}
 use Rattle.mending.specs.Places.{PlanAt}
 use Rattle.plans.specs.Schedules.{storage, scheduleWith, scheduleOf, noSchedule, Plannable}
-use Rattle.plans.specs.Admissions.{Tabled, Catalogued, checkOf, Named, NamedFor, Follows, Accepted, admissionBy, followedAdmission, planAdmission}
+use Rattle.plans.specs.Admissions.{Tabled, Catalogued, checkOf, Formable, Follows, Accepted, admissionBy, followedAdmission, planAdmission}
+use Rattle.plans.specs.Forming.{FormableFor}
 use Rattle.mending.proofs.Places.{spelled-stands}
 use Rattle.plans.proofs.Scheduling.{tables-some}
 use Rattle.plans.proofs.Whole.{leftmost-small, joins-tables, storage-le, storage-need}
 use Rattle.plans.proofs.Judging.{tested-behaved}
-use Rattle.plans.proofs.Admitting.{masks-are, rows-are, rows-at, rows-few, Passed, check-refused, check-behaved, check-ill}
+use Rattle.plans.proofs.Admitting.{masks-are, rows-are, rows-at, rows-few, spelled-sent, Passed, check-refused, check-as-sent, check-formed}
 
 -- a refusal of the plan record
 pub refused-admission : (c : Catalog) (ts : List Table) (code : List ℕ) (n d words : ℕ) → Tabled c ts → planVerdict ts code ≡ refused n d → (free : Schedule) → free ≡ noSchedule
@@ -100,31 +101,36 @@ module _ (c : Catalog) (code : List ℕ) (ts : List Table) (h : Tabled c ts) (a 
           (λ i. record { verdict = decision.Admitted; catalog = h .is i; schedule = q i })
 
 -- ---- what the check of the plan tells
--- a well-behaved plan is followed as it is
-behaved-follows : (ts : List Table) (code : List ℕ) → Passed ts code true → Follows code ts × (planVerdict ts code ≡ admitted ts (planOf code))
-unfolding planVerdict
-behaved-follows ts code p =
+-- a well-behaved plan is followed as it was sent
+behaved-follows : (ts : List Table) (code : List ℕ) → length ts ≤ 16 → Passed ts code true → Follows code ts × (planVerdict ts code ≡ admitted ts (planOf code))
+unfolding sentVerdict
+behaved-follows ts code few p =
     let w = tested-behaved (shapeOf ts) (planOf code) (p .tested) in
     let n = mendable-unmendable (shapeOf ts) (planOf code) 0 (wellBehaved-mendable (shapeOf ts) (planOf code) w) in
-    let v : planVerdict ts code ≡ admitted ts (planOf code) = rw (p .named .spelled, p .named .named, n, planVerdict) (ap (admitted ts) (mend-same (shapeOf ts) (planOf code) w)) in
-    (record { spelled = p .named .spelled; within = (plan-within ts ts code (planOf code) v) .1 }, v)
+    let u : sentVerdict ts code ≡ admitted ts (planOf code) = rw (p .named .spelled, p .named .named, n, sentVerdict) (ap (admitted ts) (mend-same (shapeOf ts) (planOf code) w)) in
+    let v = plan-sent ts code (spelled-sent ts code (p .named .spelled)) ∙ u in
+    (record { spelled = p .named .spelled; within = (plan-within ts ts code (planOf code) few v) .1 }, v)
 
 module _ (c : Catalog) (code : List ℕ) (r : Check) (checked : (ts : List Table) → Tabled c ts → r ≡ checkOf ts code) where
-  pub follows : r ≡ check.Behaved → (ts : List Table) → Tabled c ts → Follows code ts
-  follows e ts h = (behaved-follows ts code (check-behaved ts code (sym e ∙ checked ts h))) .0
+  module _ (e : r ≡ check.AsSent) where
+    as-sent-follows : (ts : List Table) → Tabled c ts → Follows code ts × (planVerdict ts code ≡ admitted ts (planOf code))
+    as-sent-follows ts h = behaved-follows ts code (h .few) (check-as-sent ts code (sym e ∙ checked ts h))
 
-  pub accepted : r ≡ check.Behaved → Catalogued c → Accepted code c
-  accepted e q = record { ts = q .ts; tabled = q .tabled; follows = follows e (q .ts) (q .tabled) }
+    pub follows : (ts : List Table) → Tabled c ts → Follows code ts
+    follows ts h = (as-sent-follows ts h) .0
 
-  pub as-sent : r ≡ check.Behaved → (ts : List Table) → Tabled c ts → (words : ℕ) (a : Admission) → a ≡ followedAdmission ts (planOf code) words → a ≡ planAdmission ts code words
-  unfolding followedAdmission planAdmission
-  as-sent e ts h words a q = q ∙ ap (λ v. admissionBy ts (scratchVerdict words v)) (sym ((behaved-follows ts code (check-behaved ts code (sym e ∙ checked ts h))) .1))
+    pub accepted : Catalogued c → Accepted code c
+    accepted q = record { ts = q .ts; tabled = q .tabled; follows = follows (q .ts) (q .tabled) }
 
-  pub named : r ≡ check.IllBehaved → (ts : List Table) → Tabled c ts → Named code ts
-  named e ts h = (check-ill ts code (sym e ∙ checked ts h)) .named
+    pub as-sent : (ts : List Table) → Tabled c ts → (words : ℕ) (a : Admission) → a ≡ followedAdmission ts (planOf code) words → a ≡ planAdmission ts code words
+    unfolding followedAdmission planAdmission
+    as-sent ts h words a q = q ∙ ap (λ v. admissionBy ts (scratchVerdict words v)) (sym ((as-sent-follows ts h) .1))
 
-  pub named-for : r ≡ check.IllBehaved → Catalogued c → NamedFor code c
-  named-for e q = record { ts = q .ts; tabled = q .tabled; named = named e (q .ts) (q .tabled) }
+  pub formable : r ≡ check.Formed → (ts : List Table) → Tabled c ts → Formable code ts
+  formable e ts h = check-formed ts code (sym e ∙ checked ts h)
+
+  pub formable-for : r ≡ check.Formed → Catalogued c → FormableFor code c
+  formable-for e q = record { ts = q .ts; tabled = q .tabled; formable = formable e (q .ts) (q .tabled) }
 
   pub plan-refused : (n d words : ℕ) → r ≡ check.Refused n d → (free : Schedule) → free ≡ noSchedule → (ts : List Table) → Tabled c ts
       → record { verdict = decision.Refused n d; catalog = c; schedule = free } ≡ planAdmission ts code words

@@ -6,25 +6,23 @@ use mathlib.Core.List.{List, [], _∷_}
 use mathlib.Core.Option.{none, some}
 use Prim.Native.Nat.{ℕ, zero, suc, _+_, _*_, _≤_, _<_, _^_}
 use native.Mathlib.Omega.{arith}
-use lib.ListN.{length, getD, take, length-append}
+use lib.ListN.{length, getD, length-append}
 use lib.Dec.{eqb, ltb}
 use borrow.Author.Tests.{eqb-true, eq-eqb, ne-eqb, ltb-true, ltb-false}
 use Rattle.semantics.specs.Lists.{filter, from}
 use Rattle.semantics.specs.Files.{Table, hasBit}
-use Rattle.semantics.specs.Plans.{Plan, scan, join, encode, tables, Small, misplaced, planOf, misnamed}
+use Rattle.semantics.specs.Plans.{Plan, scan, join, encode, tables, misplaced, planOf, misnamed}
 use Rattle.semantics.specs.Shapes.{noTable, shapeOf}
 use Rattle.semantics.specs.Details.{Once}
 use Rattle.semantics.specs.Mending.{mend, unmendable}
-use Rattle.semantics.specs.Outcome.{refused, admitted, planVerdict, scratchVerdict}
+use Rattle.semantics.specs.Outcome.{refused, admitted, sentVerdict, planVerdict}
 use Rattle.semantics.proofs.Cases.{cases}
 use Rattle.semantics.proofs.Lists.{sum-one}
 use Rattle.semantics.proofs.Numbers.{length-from}
-use Rattle.semantics.proofs.Spelling.{planOf-encode, spelled-out}
-use Rattle.semantics.proofs.Misplaced.{spelled-exactly}
+use Rattle.semantics.proofs.Spelling.{spelled-out}
 use Rattle.semantics.proofs.Naming.{plan-names, plan-sum}
 use Rattle.semantics.proofs.Mending.{sums-once}
-use Rattle.semantics.proofs.Mendable.{mend-small}
-use Rattle.semantics.proofs.Rules.{plan-within}
+use Rattle.semantics.proofs.Rules.{plan-sent}
 use Rattle.mending.specs.Parts.{shapeIn}
 use Rattle.mending.specs.Rooting.{Distinct}
 use Rattle.mending.specs.Lacking.{foundOf}
@@ -34,13 +32,9 @@ use Rattle.mending.specs.declared.lacking.Found.the-variants as found
 use Rattle.mending.proofs.Places.{spelled-stands}
 use Rattle.mending.proofs.Lacks.{found-none, found-at}
 use Rattle.tables.specs.declared.Catalog.{Catalog}
-use Rattle.plans.specs.declared.schedule.Schedule.{Schedule}
-use Rattle.plans.specs.declared.admission.Verdict.the-variants as decision
-use Rattle.plans.specs.declared.admission.Admission.{Admission}
-use Rattle.plans.specs.Schedules.{noSchedule}
-use Rattle.plans.specs.Admissions.{Tabled, Named, NamedFor, Follows, admissionBy, followedAdmission, planAdmission}
-use Rattle.plans.proofs.Admitting.{each-at, mask-at, rows-at, masks-are, rows-are}
-use Rattle.plans.proofs.Scratch.{refused-admission}
+use Rattle.plans.specs.Admissions.{Tabled, Named, NamedFor}
+use Rattle.plans.specs.Forming.{PlanIn}
+use Rattle.plans.proofs.Admitting.{each-at, mask-at, rows-at, masks-are, rows-are, spelled-sent}
 
 -- ---- 16 tables named once each have a plan of 31 bytes at most
 plan-length : (p : Plan) → length (encode p) + 1 ≡ 2 * length (tables p)
@@ -120,41 +114,30 @@ module _ (c : Catalog) (ts : List Table) (h : Tabled c ts) where
       answer-is = m .answer ∙ ap (λ S. foundOf (unmendable S (planOf code) 0)) shape-is
 
       -- answer 9
-      verdict-9 : (i : ℕ) → r ≡ found.At i → planVerdict ts code ≡ refused 9 i
-      unfolding planVerdict
-      verdict-9 i e = rw (n .spelled, n .named, found-at (unmendable (shapeOf ts) (planOf code) 0) i (sym answer-is ∙ e), planVerdict) refl
+      pub mended-refused : (i : ℕ) → r ≡ found.At i → planVerdict ts code ≡ refused 9 i
+      unfolding sentVerdict
+      mended-refused i e =
+          plan-sent ts code (spelled-sent ts code (n .spelled))
+          ∙ rw (n .spelled, n .named, found-at (unmendable (shapeOf ts) (planOf code) 0) i (sym answer-is ∙ e), sentVerdict) refl
 
-      pub mended-refused : (i words : ℕ) → r ≡ found.At i → (free : Schedule) → free ≡ noSchedule → record { verdict = decision.Refused 9 i; catalog = c; schedule = free } ≡ planAdmission ts code words
-      mended-refused i words e free q = refused-admission c ts code 9 i words h (verdict-9 i e) free q
-
-      -- or the mended plan, which the join follows
+      -- or the mended plan
       module _ (e : r ≡ found.Nothing) where
         none-9 : unmendable (shapeOf ts) (planOf code) 0 ≡ none
         none-9 = found-none (unmendable (shapeOf ts) (planOf code) 0) (sym answer-is ∙ e)
 
         admitted-is : planVerdict ts code ≡ admitted ts (mend (shapeOf ts) (planOf code))
-        unfolding planVerdict
-        admitted-is = rw (n .spelled, n .named, none-9, planVerdict) refl
+        unfolding sentVerdict
+        admitted-is = plan-sent ts code (spelled-sent ts code (n .spelled)) ∙ rw (n .spelled, n .named, none-9, sentVerdict) refl
 
-        bytes-are : take (length code) out ≡ encode (mend (shapeOf ts) (planOf code))
-        bytes-are = m .bytes (ap (λ S. unmendable S (planOf code) 0) shape-is ∙ none-9) ∙ ap (λ S. encode (mend S (planOf code))) shape-is
-
-        mended-small : Small (mend (shapeOf ts) (planOf code))
-        mended-small = mend-small (shapeOf ts) (planOf code) ((spelled-out code (n .spelled)) .0)
-
-        plan-is : planOf (take (length code) out) ≡ mend (shapeOf ts) (planOf code)
-        plan-is = ap planOf bytes-are ∙ planOf-encode (mend (shapeOf ts) (planOf code)) mended-small
-
-        pub mended-follows : Follows (take (length code) out) ts
-        mended-follows =
+        pub mended-formed : PlanIn ts code (length code) out
+        mended-formed =
             record {
-              spelled = (spelled-exactly (take (length code) out)) .1 (record { plan = mend (shapeOf ts) (planOf code); small = mended-small; is = sym bytes-are });
-              within = rw plan-is ((plan-within ts ts code (mend (shapeOf ts) (planOf code)) admitted-is) .1);
+              plan = mend (shapeOf ts) (planOf code);
+              admits = admitted-is;
+              fits = sent .short;
+              size = m .size;
+              bytes = m .bytes (ap (λ S. unmendable S (planOf code) 0) shape-is ∙ none-9) ∙ ap (λ S. encode (mend S (planOf code))) shape-is;
             }
-
-        pub mended-admission : (words : ℕ) (a : Admission) → a ≡ followedAdmission ts (planOf (take (length code) out)) words → a ≡ planAdmission ts code words
-        unfolding followedAdmission planAdmission
-        mended-admission words a q = q ∙ ap (λ p. admissionBy ts (scratchVerdict words (admitted ts p))) plan-is ∙ ap (λ v. admissionBy ts (scratchVerdict words v)) (sym admitted-is)
 
 -- ---- for the caller, who knows of some tables that they are the catalog's
 pub sent-of : (c : Catalog) (code : List ℕ) → NamedFor code c → Sent code (c .masks) (c .rows)

@@ -1,15 +1,16 @@
 -- What admission gives for what `semantics` decides.
 use mathlib.Core.Path.{_≡_}
-use mathlib.Core.Bool.{true, false}
+use mathlib.Core.Bool.{Bool, true, false, _&&_}
 use mathlib.Core.List.{List, [], map}
 use mathlib.Core.Option.{none, some}
 use Prim.Native.Nat.{ℕ, _<_, _≤_, _^_}
 use lib.ListN.{length}
+use lib.Dec.{eqb, ltb}
 use Rattle.semantics.specs.Lists.{Each}
 use Rattle.semantics.specs.Files.{Table, read}
 use Rattle.semantics.specs.Plans.{Plan, misplaced, planOf, misnamed}
 use Rattle.semantics.specs.Shapes.{shapeOf}
-use Rattle.semantics.specs.Outcome.{Verdict, refused, admitted, planVerdict, scratchVerdict, verdict, WithinRules}
+use Rattle.semantics.specs.Outcome.{Verdict, refused, admitted, asksForPlan, planVerdict, scratchVerdict, verdict, WithinRules}
 use Rattle.words.specs.Arrays.{padded}
 use Rattle.tables.specs.declared.Catalog.{Catalog}
 use Rattle.tables.specs.Catalogs.{catalogOf}
@@ -34,17 +35,25 @@ pub record Catalogued (c : Catalog) : Type 0 where
   pub ts : List Table
   pub tabled : Tabled c ts
 
--- what answers 7 and 8 leave, and whether the plan is well-behaved
-unfoldable pub checkOf : List Table → List ℕ → Check
-checkOf ts code =
+-- of n tables and these bytes a plan is asked for
+unfoldable pub asksFor : ℕ → List ℕ → Bool
+asksFor n code = eqb (length code) 0 && ltb 0 n
+
+-- what answers 7 and 8 leave of a plan that is sent
+unfoldable pub sentCheck : List Table → List ℕ → Check
+sentCheck ts code =
     elim (misplaced 1 0 code) [
       | some i ↦ check.Refused 7 i
       | none ↦
           elim (misnamed (length ts) [] 0 code) [
             | some i ↦ check.Refused 8 i
-            | none ↦ elim (wellBehaved (shapeOf ts) (planOf code)) [ true ↦ check.Behaved | false ↦ check.IllBehaved ]
+            | none ↦ elim (wellBehaved (shapeOf ts) (planOf code)) [ true ↦ check.AsSent | false ↦ check.Formed ]
           ]
     ]
+
+-- and where none is
+unfoldable pub checkOf : List Table → List ℕ → Check
+checkOf ts code = elim (asksForPlan ts code) [ true ↦ check.Formed | false ↦ sentCheck ts code ]
 
 -- 7 and 8 are not due for the plan's bytes and these tables
 pub record Named (code : List ℕ) (ts : List Table) : Type 0 where
@@ -56,6 +65,11 @@ pub record NamedFor (code : List ℕ) (c : Catalog) : Type 0 where
   pub ts : List Table
   pub tabled : Tabled c ts
   pub named : Named code ts
+
+-- a plan is to be formed: none is sent, or one for which 7 and 8 are not due
+pub data Formable (code : List ℕ) (ts : List Table) : Type 0 where
+  asked : asksForPlan ts code ≡ true → Formable code ts
+  sent : Named code ts → Formable code ts
 
 -- the bytes are those of a plan that the join can follow with these tables
 pub record Follows (code : List ℕ) (ts : List Table) : Type 0 where
@@ -92,22 +106,22 @@ admissionBy ts v = record { verdict = verdictOf v; catalog = catalogOf ts; sched
 unfoldable pub followedAdmission : List Table → Plan → ℕ → Admission
 followedAdmission ts p words = admissionBy ts (scratchVerdict words (admitted ts p))
 
--- the answers 7 to 10 for the plan's bytes, the tables of a file and a scratch of that many words
+-- the answers 7 to 10 and 14 for the plan's bytes, the tables of a file and a scratch of that many words
 unfoldable pub planAdmission : List Table → List ℕ → ℕ → Admission
 planAdmission ts code words = admissionBy ts (scratchVerdict words (planVerdict ts code))
 
 -- a ruling, with the schedule that stands in these lists, is: that of the plan that the bytes spell, where the join can follow it; of
--- the plan record, where 7 and 8 are not due; of the plan record
+-- the plan record, where a plan is to be formed; of the plan record
 abbrev pub FollowedBy : Catalog → List ℕ → ℕ → Ruling → List ℕ → List (List ℕ) → Type 0
 FollowedBy c code words r keys lists = (ts : List Table) → Tabled c ts → Follows code ts → admissionIn r c keys lists ≡ followedAdmission ts (planOf code) words
 
-abbrev pub MendedBy : Catalog → List ℕ → ℕ → Ruling → List ℕ → List (List ℕ) → Type 0
-MendedBy c code words r keys lists = (ts : List Table) → Tabled c ts → Named code ts → admissionIn r c keys lists ≡ planAdmission ts code words
+abbrev pub FormedBy : Catalog → List ℕ → ℕ → Ruling → List ℕ → List (List ℕ) → Type 0
+FormedBy c code words r keys lists = (ts : List Table) → Tabled c ts → Formable code ts → admissionIn r c keys lists ≡ planAdmission ts code words
 
 abbrev pub RuledBy : Catalog → List ℕ → ℕ → Ruling → List ℕ → List (List ℕ) → Type 0
 RuledBy c code words r keys lists = (ts : List Table) → Tabled c ts → admissionIn r c keys lists ≡ planAdmission ts code words
 
--- the answers 1 to 10, or the catalog and the schedule
+-- the answers 1 to 10 and 14, or the catalog and the schedule
 unfoldable pub admissionOf : List ℕ → ℕ → Admission
 admissionOf bytes words =
     record { verdict = verdictOf (verdict bytes words); catalog = catalogOf ((read bytes) .tables); schedule = scheduleFor (verdict bytes words) }

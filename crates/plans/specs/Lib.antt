@@ -5,3 +5,4 @@ pub mod Schedules
 pub mod Admissions
 pub mod ByNumber
 pub mod Prepared
+pub mod Forming

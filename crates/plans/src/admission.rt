@@ -1,14 +1,17 @@
-// Whether a file is within the rules and the scratch is long enough: answers 1 to 10, or the catalog and the schedule that the
+// Whether a file is within the rules and the scratch is long enough: answers 1 to 10 and 14, or the catalog and the schedule that the
 // rest of the join works on. No attribute value is read here.
 ghost use mathlib.Core.Path.{_≡_};
 ghost use mathlib.Core.List.{List};
 ghost use Prim.Native.Nat.{_<_};
 ghost use Rattle.semantics.specs.Files.{Table};
-ghost use Rattle.plans.specs.Admissions.{Tabled, Catalogued, checkOf, NamedFor, Accepted, refusalOf, admissionIn, admissionOf};
-ghost use Rattle.plans.specs.Admissions.{FollowedBy, MendedBy, RuledBy};
+ghost use Rattle.plans.specs.Admissions.{Tabled, Catalogued, asksFor, checkOf, Accepted, refusalOf, admissionIn, admissionOf};
+ghost use Rattle.plans.specs.Admissions.{FollowedBy, FormedBy, RuledBy};
+ghost use Rattle.plans.specs.Forming.{FormableFor};
 ghost use Rattle.plans.specs.Schedules.{Blank};
 ghost use Rattle.tables.specs.Catalogs.{contentsOf};
 use crate::behaviour::is_well_behaved;
+use crate::forming::Formed;
+use crate::forming::formed_plan;
 use crate::naming::first_misnamed;
 use crate::schedule::Counts;
 use crate::schedule::ORDER;
@@ -28,11 +31,12 @@ pub enum Verdict {
     Admitted,
 }
 
-// What answers 7 and 8 leave: refused with a number and its detail, or a plan that is well-behaved or not.
+// What answers 7 and 8 leave: refused with a number and its detail; or a plan that is followed as it was sent; or one that is formed,
+// since it is not well-behaved or there is none.
 pub enum Check {
     Refused(u32, usize),
-    Behaved,
-    IllBehaved,
+    AsSent,
+    Formed,
 }
 
 // The verdict; the tables read before it; and, where the file is admitted, the schedule of its plan.
@@ -62,25 +66,35 @@ fn refusal(number: u32, detail: usize) -> Ruling
     }
 }
 
-// Answers 7 and 8, in this order, for the plan's bytes and the tables of a file; else whether the plan is well-behaved.
+// Whether the plan's bytes ask for a plan: there are none of them, and there are tables.
+fn asks_for_plan(code: &[u8], count: usize) -> bool
+    ensures { λ r. ⌜ r ≡ asksFor count (now (code .entry)) ⌝ }
+{
+    if code.len() == 0 { 0 < count } else { false }
+}
+
+// Answers 7 and 8, in this order, for the plan's bytes and the tables of a file; else whether the plan is followed as it was sent.
 fn check_plan(code: &[u8], catalog: Catalog) -> Check
     requires { ⌜ Catalogued catalog ⌝ }
     ensures { λ r. ⌜ ((ts : List Table) → Tabled catalog ts → r ≡ checkOf ts (now (code .entry))) ⌝ }
 {
+    let count = catalog.count;
+    if asks_for_plan(code, count) {
+        return Check::Formed;
+    }
     let spelling = first_misplaced(code);
     if let Found::At(i) = spelling {
         return Check::Refused(7, i);
     }
-    let count = catalog.count;
     let naming = first_misnamed(code, count);
     if let Found::At(i) = naming {
         return Check::Refused(8, i);
     }
     let masks = catalog.masks;
     if is_well_behaved(code, &masks) {
-        Check::Behaved
+        Check::AsSent
     } else {
-        Check::IllBehaved
+        Check::Formed
     }
 }
 
@@ -111,29 +125,26 @@ fn with_scratch(
     }
 }
 
-// Answers 9 and 10 for a plan that is not well-behaved: it is mended, and the mended one is followed.
-fn with_mended(
+// Answers 9, 10 and 14 for a plan that is formed: the formed one is followed.
+fn with_formed(
     code: &[u8],
     catalog: Catalog,
     words: usize,
     keys: &mut [u32; 16],
     lists: &mut [[usize; 16]; 8],
 ) -> Ruling
-    requires { ⌜ NamedFor (now code) catalog × Blank (now keys) (now lists) ⌝ }
-    ensures { λ r. ⌜ MendedBy catalog (now (code .entry)) words r (now (keys .exit)) (now (lists .exit)) ⌝ }
+    requires { ⌜ FormableFor (now code) catalog × Blank (now keys) (now lists) ⌝ }
+    ensures { λ r. ⌜ FormedBy catalog (now (code .entry)) words r (now (keys .exit)) (now (lists .exit)) ⌝ }
 {
-    let masks = catalog.masks;
-    let rows = catalog.rows;
-    let n = code.len();
-    let mut mended = [0u8; 31];
-    let lacking = mending::mend(code, &masks, &rows, &mut mended);
-    match lacking {
-        Found::At(i) => refusal(9, i),
-        Found::Nothing => with_scratch(&mended[..n], catalog, words, keys, lists),
+    let mut bytes = [0u8; 31];
+    let formed = formed_plan(code, catalog, &mut bytes);
+    match formed {
+        Formed::Refused(n, d) => refusal(n, d),
+        Formed::Plan(n) => with_scratch(&bytes[..n], catalog, words, keys, lists),
     }
 }
 
-// Answers 7 to 10 for the plan's bytes and the tables of a file.
+// Answers 7 to 10 and 14 for the plan's bytes and the tables of a file.
 fn admit_plan(
     code: &[u8],
     catalog: Catalog,
@@ -147,12 +158,12 @@ fn admit_plan(
     let check = check_plan(code, catalog);
     match check {
         Check::Refused(n, d) => refusal(n, d),
-        Check::Behaved => with_scratch(code, catalog, words, keys, lists),
-        Check::IllBehaved => with_mended(code, catalog, words, keys, lists),
+        Check::AsSent => with_scratch(code, catalog, words, keys, lists),
+        Check::Formed => with_formed(code, catalog, words, keys, lists),
     }
 }
 
-// Answers 1 to 10 for a file that is read.
+// Answers 1 to 10 and 14 for a file that is read.
 fn rule(
     file: &[u8],
     contents: Contents,
@@ -171,7 +182,7 @@ fn rule(
     }
 }
 
-// Answers 1 to 10 for a file and a scratch of that many words, or the catalog and the schedule. The admission is made here and
+// Answers 1 to 10 and 14 for a file and a scratch of that many words, or the catalog and the schedule. The admission is made here and
 // nowhere else, so that catalog and schedule are copied once.
 pub fn admit(file: &[u8], words: usize) -> Admission
     ensures { λ r. ⌜ r ≡ admissionOf (now (file .entry)) words ⌝ }

@@ -33,9 +33,9 @@ pub mod Eliminating
 pub mod Choices
 pub mod Reading
 pub mod Values
+pub mod Rules
 pub mod SentAnswers
 pub mod PlanAnswers
-pub mod Rules
 pub mod Output
 pub mod Answers
 pub mod Samples

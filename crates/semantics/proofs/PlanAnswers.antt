@@ -18,6 +18,7 @@ use Rattle.semantics.proofs.Cases.{cases, true-false}
 use Rattle.semantics.proofs.Reading.{ending-cases, fault-number}
 use Rattle.semantics.proofs.FoundPlans.{elimination-cases, sums-named, rooted-plan, stuck-none}
 use Rattle.semantics.proofs.Eliminating.{stuck-exactly, rooted-exactly}
+use Rattle.semantics.proofs.Rules.{plan-sent, plan-found}
 use Rattle.semantics.proofs.SentAnswers.{sent-seven, sent-eight, sent-nine, sent-within, sent-other}
 
 -- ---- a plan is asked for
@@ -42,14 +43,12 @@ spells-plan ts code s w = some-byte (s .plan) (s .is ∙ w .empty)
 
 module _ (ts : List Table) (code : List ℕ) where
   asked : WithoutPlan ts code → planVerdict ts code ≡ foundVerdict ts
-  unfolding planVerdict
-  asked w = rw (without-asks ts code w, planVerdict)
+  asked w = plan-found ts code (without-asks ts code w)
 
   plan-cases : {P : Type 0} → (WithoutPlan ts code → planVerdict ts code ≡ foundVerdict ts → P) → ((WithoutPlan ts code → ⊥) → planVerdict ts code ≡ sentVerdict ts code → P) → P
-  unfolding planVerdict
   plan-cases f g =
-      cases (asksForPlan ts code) (λ h. f (asks ts code h) (rw (h, planVerdict)))
-      (λ h. g (λ w. true-false (asksForPlan ts code) (without-asks ts code w) h) (rw (h, planVerdict)))
+      cases (asksForPlan ts code) (λ h. f (asks ts code h) (plan-found ts code h))
+      (λ h. g (λ w. true-false (asksForPlan ts code) (without-asks ts code w) h) (plan-sent ts code h))
 
   -- ---- what is found: 14 or a plan
   found-plan : {z : ℕ} {hs : List Hanging} → eliminate (shapeOf ts) (length ts) ≡ rooted z hs → foundVerdict ts ≡ admitted ts (planUnder hs z)

@@ -76,17 +76,25 @@ found-judged ts l few =
     elimination-cases (eliminate (shapeOf ts) (length ts)) (λ z hs e. rw (e, foundVerdict) (refl, rooted-within ts z hs l few e)) (λ d e. rw (e, foundVerdict) refl)
 
 -- the plan is asked for only where there are tables
-asks-tables : (ts : List Table) (code : List ℕ) → asksForPlan ts code ≡ true → 0 < length ts
+pub asks-tables : (ts : List Table) (code : List ℕ) → asksForPlan ts code ≡ true → 0 < length ts
 unfolding asksForPlan
 asks-tables [] code e = absurd (true-false false e refl)
 asks-tables (t ∷ ts) code e = omega arith
 
-plan-judged : (ts : List Table) (code : List ℕ) → length ts ≤ 16 → Judged BeforeTen ts (planVerdict ts code)
+-- the verdict is that on a plan that is sent, or that on the plan that is found
+pub plan-sent : (ts : List Table) (code : List ℕ) → asksForPlan ts code ≡ false → planVerdict ts code ≡ sentVerdict ts code
 unfolding planVerdict
+plan-sent ts code e = rw (e, planVerdict)
+
+pub plan-found : (ts : List Table) (code : List ℕ) → asksForPlan ts code ≡ true → planVerdict ts code ≡ foundVerdict ts
+unfolding planVerdict
+plan-found ts code e = rw (e, planVerdict)
+
+plan-judged : (ts : List Table) (code : List ℕ) → length ts ≤ 16 → Judged BeforeTen ts (planVerdict ts code)
 plan-judged ts code few =
     cases (asksForPlan ts code)
-    (λ h. rw (h, planVerdict) (widen (λ n. n ≡ 14) BeforeTen ts (λ n e. inr e) (foundVerdict ts) (found-judged ts (asks-tables ts code h) few)))
-    (λ h. rw (h, planVerdict) (widen (λ n. (7 ≤ n) × (n ≤ 9)) BeforeTen ts (λ n e. inl (omega (arith, e .0), e .1)) (sentVerdict ts code) (sent-judged ts code)))
+    (λ h. rw (plan-found ts code h) (widen (λ n. n ≡ 14) BeforeTen ts (λ n e. inr e) (foundVerdict ts) (found-judged ts (asks-tables ts code h) few)))
+    (λ h. rw (plan-sent ts code h) (widen (λ n. (7 ≤ n) × (n ≤ 9)) BeforeTen ts (λ n e. inl (omega (arith, e .0), e .1)) (sentVerdict ts code) (sent-judged ts code)))
 
 rules-judged : (bytes : List ℕ) → Judged BeforeTen ((read bytes) .tables) (rulesVerdict bytes)
 unfolding rulesVerdict readVerdict

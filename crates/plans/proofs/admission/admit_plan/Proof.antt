@@ -1,5 +1,5 @@
 use Rattle.plans.proofs.Whole.{nothing-is}
-use Rattle.plans.proofs.Scratch.{follows, accepted, as-sent, named, named-for, plan-refused}
+use Rattle.plans.proofs.Scratch.{follows, accepted, as-sent, formable, formable-for, plan-refused}
 use borrow.Author.Needs.{needs}
 use Rattle.plans.proofs.admission.admit_plan.Statement.{statement}
 use Rattle.plans.proofs.admission.admit_plan.Tie as tie
@@ -7,7 +7,7 @@ use Rattle.plans.proofs.admission.admit_plan.Reads as reads
 use Rattle.plans.proofs.admission.admit_plan.Lts as lts
 use Rattle.plans.proofs.admission.check_plan.Reads as check-plan-reads
 use Rattle.plans.proofs.admission.refusal.Reads as refusal-reads
-use Rattle.plans.proofs.admission.with_mended.Reads as with-mended-reads
+use Rattle.plans.proofs.admission.with_formed.Reads as with-formed-reads
 use Rattle.plans.proofs.admission.with_scratch.Reads as with-scratch-reads
 
 check-plan-requires : tie.Need-check-plan-requires
@@ -28,8 +28,8 @@ with-scratch-requires c κs = (accepted _ _ _ (c .before .before .before .before
 enum-told-2 : tie.Need-enum-told-2
 enum-told-2 c = search needs
 
-with-mended-requires : tie.Need-with-mended-requires
-with-mended-requires c κs = (named-for _ _ _ (c .before .before .before .before .check-plan .ensures) (c .before .before .enum-told2 .given .1) (c .before .before .before .before .before .before .pre .0), c .before .before .before .before .before .before .pre .1)
+with-formed-requires : tie.Need-with-formed-requires
+with-formed-requires c κs = (formable-for _ _ _ (c .before .before .before .before .check-plan .ensures) (c .before .before .enum-told2 .given .1) (c .before .before .before .before .before .before .pre .0), c .before .before .before .before .before .before .pre .1)
 
 returns : tie.Need-returns
 returns c = λ ts h. rw (c .refusal .ensures) (plan-refused _ _ _ (c .before .before .before .before .check-plan .ensures) _ _ _ (c .before .before .check .given .1) _ (nothing-is _ _ (c .before .before .before .before .before .before .pre .1)) ts h)
@@ -38,7 +38,7 @@ returns-2 : tie.Need-returns-2
 returns-2 c = λ ts h. as-sent _ _ _ (c .before .before .before .before .before .check-plan .ensures) (c .before .before .before .enum-told .given .1) ts h _ _ (c .with-scratch .ensures ts h (follows _ _ _ (c .before .before .before .before .before .check-plan .ensures) (c .before .before .before .enum-told .given .1) ts h))
 
 returns-3 : tie.Need-returns-3
-returns-3 c = λ ts h. c .with-mended .ensures ts h (named _ _ _ (c .before .before .before .before .before .check-plan .ensures) (c .before .before .before .enum-told2 .given .1) ts h)
+returns-3 c = λ ts h. c .with-formed .ensures ts h (formable _ _ _ (c .before .before .before .before .before .check-plan .ensures) (c .before .before .before .enum-told2 .given .1) ts h)
 
 pub admit-plan-spec : {M : Type 1} → statement M
 admit-plan-spec =
@@ -50,7 +50,7 @@ admit-plan-spec =
     enum-told
     with-scratch-requires
     enum-told-2
-    with-mended-requires
+    with-formed-requires
     returns
     returns-2
     returns-3)
