@@ -1,4 +1,4 @@
--- Answers 1 to 10 for a file: what the reading gave, and then what its plan comes to.
+-- Answers 1 to 10 and 14 for a file: what the reading gave, and then what its plan comes to.
 use Prim.Native.Nat.{ℕ, _-_, _<_, _≤_, _^_}
 use mathlib.Core.Path.{_≡_, refl, sym, ap, _∙_}
 use mathlib.Core.List.{List}
