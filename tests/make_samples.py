@@ -104,6 +104,7 @@ def cut_samples():
     sample("cut_before_plan_length", P1[:120])
     sample("cut_before_plan_bytes", P1[:121])
     sample("cut_before_last_byte", P1[:125])
+    sample("cut_before_plan_length_0", file([ONE])[:-1])
 
 
 def record_samples():
@@ -136,12 +137,14 @@ def record_samples():
     sample("behind_plan_a_table", P1 + ONE)
     sample("behind_plan_a_plan", P1 + plan(0))
     sample("plan_before_tables", plan(0) + ONE)
+    sample("plan_of_no_bytes_before_a_table", plan() + ONE)
+    sample("behind_plan_of_no_bytes", file(BENCH) + b"\0")
     sample("fault_of_second_table_first_one_whole", ONE + record(0, 1, [5]) + record(1, 4097))
 
 
 # ---- answers 7 to 11
 def plan_samples():
-    sample("plan_of_no_bytes", file(BENCH))
+    sample("plan_of_no_bytes_and_no_tables", file([]))
     sample("plan_of_ff_alone", file(BENCH, FF))
     sample("plan_of_255_ff", file(BENCH, *[FF] * 255))
     sample("plan_ends_early_inside", file(BENCH, FF, FF, 0, 1))
@@ -474,6 +477,107 @@ def sixteen_samples():
     sample("mended_16_tables_snowflake_bushy", file(flake, FF, FF, *first, FF, *second, 0, *third))
 
 
+# ---- files without a plan
+def found(name, tables, code, scratch=1000, output=300):
+    """A sample without a plan, and the bytes of the plan that is found."""
+    data = file(tables)
+    assert reference.found_code(reference.read(data)[0]).hex() == code, name
+    sample("found_" + name, data, scratch, output)
+
+
+def not_found(name, tables, detail, scratch=1000, output=300):
+    """A sample without a plan, for which none is found."""
+    data = file(tables)
+    assert reference.outcome(data, scratch, output)[:2] == (14, detail), name
+    sample("no_plan_found_" + name, data, scratch, output)
+
+
+def lettered(*texts):
+    """Tables of 2 and of 3 rows by turns, linked by the attributes that the letters of a text stand for: a for 0, b for 1
+    and so on."""
+    return linked(*[(2 + t % 2, tuple("abcdefghij".index(letter) for letter in text)) for t, text in enumerate(texts)])
+
+
+def found_samples():
+    code = "ff02ff0100"
+    found("sample_file", BENCH, code)
+    found("sample_file_scratch_of_94_words", BENCH, code, 94)
+    found("sample_file_scratch_of_95_words", BENCH, code, 95, 16)
+    found("sample_file_output_of_15_words", BENCH, code, 1000, 15)
+    found("one_table_no_rows_no_buffers", [table((0,))], "00", 0, 0)
+    found("middle_table_empty", [FRAMES, table((1, 2)), READINGS], code)
+    missing = [table((0, 1), (10, 1), (11, W), (12, 2)), table((1, 2), (1, 7), (W, 7), (2, W), (2, 8), (W, W)),
+               table((2, 3), (7, W), (W, 5), (8, 6))]
+    found("unrecorded_in_keys", missing, code)
+    eight = table(range(24, 32), range(8), range(1, 9))
+    found("shared_attribute_31", [eight, table((0, 31), (1, 7), (2, 8), (3, 9)), table((0,), (3,), (1,))], code)
+
+
+def found_choice_samples():
+    """Files where another reading of what is hung, of under what, or of the order gives another plan, or none."""
+    found("no_shared_attributes", [table((t,), (t,), (9,)) for t in range(4)], "ff03ff02ff0100")
+    found("equal_masks", [table((0, 1), *[(y, y) for y in range(rows)]) for rows in (3, 2, 4)], "ff02ff0100")
+    found("two_tables_under_the_last", lettered("a", "b", "ab"), "ffff020001")
+    found("larger_table_under_the_smaller", lettered("abc", "a"), "ff0100")
+    # table 0 could hang under any other; the lowest is taken
+    found("under_the_lowest_of_three", lettered("a", "ab", "ac", "ad"), "ff03ff02ff0100")
+    # table 3 hangs under table 1, which has a lower number and cannot be hung before
+    found("under_a_lower_number", lettered("ab", "bcd", "a", "c", "de"), "ff04ffff01ff000203")
+    # what tables 1 and 2 share with a table that was hung would keep both from being hung
+    found("hung_tables_no_longer_count", lettered("ab", "bc", "cd", "de"), "ff03ff02ff0100")
+    # tables 1, 2 and 0 are hung in this order, 1 and 0 under table 3
+    found("children_in_rising_number", lettered("ab", "c", "b", "ac"), "ffff03ff000201")
+    # once table 2 is hung, tables 1 and 0 come before table 4
+    found("search_begins_anew", lettered("ab", "bc", "c", "ad", "d"), "ff04ff03ff00ff0102")
+    found("triangle_below_a_fourth_table", lettered("ab", "bc", "ac", "abc"), "ffffff03000102")
+    found("triangle_behind_a_table_of_all_three", lettered("abc", "ab", "bc", "ac"), "ff03ffff000102")
+    # the largest table is the root all the same
+    found("row_counts_do_not_matter", linked((1, (0,)), (2, (0, 1)), (9, (1,))), "ff02ff0100")
+
+
+def not_found_samples():
+    ring = ("ab", "bc", "cd", "ad")
+    not_found("in_a_triangle", lettered("ab", "ac", "bc"), 0)
+    not_found("and_no_buffers", lettered("ab", "ac", "bc"), 0, 0, 0)
+    not_found("in_a_ring_with_a_table_behind", lettered(*ring, "de"), 0)
+    not_found("in_a_ring_with_a_table_before", lettered("de", *ring), 1)
+    not_found("after_two_were_hung", [table(held) for held in ((0,), (0, 3), (0, 1), (1, 2), (0, 2))], 2)
+    # tables 0, 2 and 3 are hung, four remain
+    not_found("in_a_ring_from_table_1", lettered("ae", "ab", "ef", "bg", "bc", "cd", "ad"), 1)
+    # tables 0 to 4, 6 and 8 are hung, three remain
+    rest = ("ad", "de", "ef", "fg", "gh", "ab", "b", "bc", "ij", "ac")
+    not_found("in_a_triangle_from_table_5", lettered(*rest), 5)
+    # table 5, the last of the chain, shares nothing then and hangs under table 1
+    not_found("beside_a_chain", lettered("de", "ab", "ac", "bc", "ef", "fg"), 1)
+    late = [(t, t + 1) for t in range(13)] + [(13, 14), (14, 15), (13, 15)]
+    not_found("in_the_last_three_of_16", linked(*[(1, held) for held in late]), 13)
+
+
+def sixteen_found_samples():
+    rows = (2, 1, 3, 1, 2, 1, 1, 2, 1, 3, 1, 1, 2, 1, 2, 1)
+    shuffled = [7, 2, 12, 0, 15, 9, 4, 5, 13, 1, 10, 8, 3, 14, 6, 11]
+    deep = "".join("ff%02x" % t for t in range(15, 0, -1)) + "00"
+    chain = [tuple(a for a in (t - 1, t) if 0 <= a < 15) for t in range(16)]
+    found("16_tables_chain", linked(*zip(rows, chain)), deep)
+    both = [chain[t] for i in range(8) for t in (i, 15 - i)]
+    found("16_tables_chain_from_both_ends", linked(*zip(rows, both)),
+          "ffff0fff0dff0bff09ff07ff05ff0301ff0eff0cff0aff08ff06ff04ff0200")
+    code = "ffff0fff02ff08ff0d04ff0aff05ff0bff00ff0eff07ff06ff0cff01ff0903"
+    found("16_tables_chain_shuffled", linked(*zip(rows, [chain[t] for t in shuffled])), code, 223)
+    star = [tuple(range(7))] + [(t % 7,) for t in range(15)]
+    code = "ff0f" + "ff" * 14 + bytes(range(15)).hex()
+    found("16_tables_star", linked(*zip(rows, star)), code, 229)
+    found("16_tables_star_scratch_one_short", linked(*zip(rows, star)), code, 228)
+    # the first table shares an attribute with each of three, and each of these one with four of the others
+    flake = [(0, 1, 2)] + [(d, *range(3 + 4 * d, 7 + 4 * d)) for d in range(3)] + [(3 + t,) for t in range(12)]
+    found("16_tables_snowflake", linked(*zip(rows, flake)),
+          "ff0fffffffff03ffff00ffffffff0104050607ffffffff0208090a0b0c0d0e")
+    found("16_tables_snowflake_shuffled", linked(*zip(rows, [flake[t] for t in shuffled])),
+          "ff0fffffffff01ffff03ffffffff090006070effffffff0c0204080d050a0b")
+    found("16_tables_apart", [table((t,), *[(y,) for y in range(n)]) for t, n in enumerate((2, 1, 1, 1) * 4)], deep)
+    found("16_equal_masks", [table((0,), (5,), (6,)) if t % 4 == 1 else table((0,), (5,)) for t in range(16)], deep)
+
+
 # ---- trees of tables, drawn
 def drawn_tree(draw, n):
     """Attributes of n tables: each later one shares up to two with one before it, and has one or two of its own."""
@@ -523,6 +627,19 @@ def mended_tree_samples():
         sample("mended_tree_of_%d_tables" % n, data, 1000, 1000)
 
 
+def found_tree_samples():
+    """Files without a plan, numbered in any order, one for each of some numbers of tables."""
+    for n in (8, 9, 11, 12, 13, 14, 15):
+        for seed in itertools.count():
+            draw = random.Random(seed).randrange
+            held = sorted(drawn_tree(draw, n), key=lambda attributes: draw(1000))
+            tables = [table(attributes, *[[draw(4) // 3 for a in attributes] for y in range((1, 1, 2, 3)[draw(4)])])
+                      for attributes in held]
+            if 2 <= len(reference.outcome(file(tables), 65536, 65536)[2]) <= 12:
+                sample("found_tree_of_%d_tables" % n, file(tables))
+                break
+
+
 # ---- the files
 def write(path, data):
     with open(os.path.join(TOP, path), "wb") as f:
@@ -539,7 +656,8 @@ def main():
     for make in (
         bench_samples, cut_samples, record_samples, plan_samples, buffer_samples, product_samples, key_samples,
         unrecorded_samples, row_samples, many_table_samples, tree_samples, mended_samples, mended_choice_samples,
-        no_holder_samples, sixteen_samples, mended_tree_samples,
+        no_holder_samples, sixteen_samples, mended_tree_samples, found_samples, found_choice_samples,
+        not_found_samples, sixteen_found_samples, found_tree_samples,
     ):
         make()
     folder = os.path.join(TOP, "crates/samples/data")
