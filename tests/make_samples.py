@@ -493,7 +493,7 @@ def not_found(name, tables, detail, scratch=1000, output=300):
 
 
 def lettered(*texts):
-    """Tables of 2 and of 3 rows by turns, linked by the attributes that their letters stand for: a for 0, b for 1 .."""
+    """Tables of 2 and of 3 rows by turns, linked by the attributes that their letters stand for: a is 0, b is 1 .."""
     return linked(*[(2 + t % 2, tuple("abcdefghij".index(letter) for letter in text)) for t, text in enumerate(texts)])
 
 
@@ -509,7 +509,8 @@ def found_samples():
                table((2, 3), (7, W), (W, 5), (8, 6))]
     found("unrecorded_in_keys", missing, code)
     eight = table(range(24, 32), range(8), range(1, 9))
-    found("shared_attribute_31", [eight, table((0,), (3,), (1,)), table((0, 31), (1, 7), (2, 8), (3, 8))], "ffff020001")
+    last = table((0, 31), (1, 7), (2, 8), (3, 8))
+    found("shared_attribute_31", [eight, table((0,), (3,), (1,)), last], "ffff020001")
 
 
 def found_choice_samples():
