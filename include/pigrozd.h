@@ -1,4 +1,5 @@
-/* Pigrozd: joins the tables of a file by its plan. For x86-64 Linux; numbers in a file are little-endian.
+/* Pigrozd: joins the tables of a file by its plan, or by one that it finds. For x86-64 Linux; numbers in a file are
+ * little-endian.
  *
  * What the caller owes:
  * - No pointer is NULL, also where the length beside it is 0.
@@ -32,7 +33,7 @@
 #define PIGROZD_MOST_ROWS 4096           /* of one table */
 #define PIGROZD_MOST_TABLE_ATTRIBUTES 8  /* of one table; it has at least 1 */
 #define PIGROZD_MOST_ATTRIBUTES 32       /* of all tables together, and the values of a row of the result; numbered from 0 */
-#define PIGROZD_MOST_PLAN_BYTES 255      /* that the plan's record can hold; a plan of 16 tables has 31 */
+#define PIGROZD_MOST_PLAN_BYTES 255      /* that the plan's record can hold; a plan of 16 tables has 31, or none */
 
 /* The most words of scratch that any file needs: 8 for each of 16 * 4,096 rows, and 4,096 for each of 15 joins. */
 #define PIGROZD_MOST_SCRATCH_WORDS 585728
@@ -69,7 +70,8 @@ enum pigrozd_number {
     PIGROZD_NO_HOLDER = 9,         /* a join has a side where no table holds its join attributes; detail: index of its FF */
     PIGROZD_SCRATCH_SHORT = 10,    /* the scratch is too short; detail: words needed */
     PIGROZD_OUTPUT_SHORT = 11,     /* more results than the output fits; detail: number of results, or PIGROZD_HOLD_LIMIT */
-    PIGROZD_COUNTS_DIFFER = 12     /* two counts of the results differ; never given, which is proved; detail: 0 */
+    PIGROZD_COUNTS_DIFFER = 12,    /* two counts of the results differ; never given, which is proved; detail: 0 */
+    PIGROZD_NO_PLAN_FOUND = 14     /* no plan can be found for these tables; detail: lowest number of those that remain */
 };
 
 /* The name that 9 had before plans were mended; a plan that is not well-behaved is no longer refused for that. */
@@ -91,13 +93,19 @@ typedef struct pigrozd_answer {
  * (docs/SPECIFICATION.md, section 3). The order of the rows, the words of scratch needed and the counts are those of the plan
  * that is followed. The detail of PIGROZD_NO_HOLDER is an index in the plan of the file.
  *
+ * A caller need not have a plan. One of no bytes, a plan's record that is 'P', 'L', 0, asks the join to find one, from the
+ * attributes of the tables alone. It is well-behaved, and names the last table of the file first. PIGROZD_NO_PLAN_FOUND says
+ * that no well-behaved plan of these tables exists; three that share attributes in a ring have none. It is given in the place of
+ * PIGROZD_NOT_NAMED_ONCE and PIGROZD_NO_HOLDER, so before PIGROZD_SCRATCH_SHORT. Without tables a plan of no bytes is
+ * PIGROZD_NOT_A_PLAN with detail 0.
+ *
  * After PIGROZD_JOINED output begins with the rows: each has one word for every attribute that some table has, attributes
  * rising. The words behind them, and after any other number all of output, are as they were.
  *
  * Too little scratch is PIGROZD_SCRATCH_SHORT: lend as many words as detail says and call again. Too short an output is
  * PIGROZD_OUTPUT_SHORT: detail times the values of a row are the words to lend. Where these are more than
  * PIGROZD_MOST_OUTPUT_WORDS, no output is long enough. After PIGROZD_JOINED and PIGROZD_OUTPUT_SHORT all of scratch is zero;
- * after 1 to 10 it is as it was. What scratch and output hold before the call changes no answer. */
+ * after 1 to 10 and 14 it is as it was. What scratch and output hold before the call changes no answer. */
 pigrozd_answer pigrozd_join(const uint8_t *file, size_t file_bytes,
                             uint32_t *scratch, size_t scratch_words,
                             uint32_t *output, size_t output_words);

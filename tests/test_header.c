@@ -1,6 +1,6 @@
 /* Tests include/pigrozd.h as C99 and as C++ against the library: that each name of an answer is the number that is given under
- * its condition, that the limits are those at which answers change, that a plan is mended, that a value which was not recorded
- * matches nothing, and that the version is said alike everywhere.
+ * its condition, that the limits are those at which answers change, that a plan is mended, or found where there is none, that a
+ * value which was not recorded matches nothing, and that the version is said alike everywhere.
  * make check-c runs it. It prints nothing and ends with 0, or prints each test that failed and ends with 1. */
 #include "pigrozd.h"
 
@@ -216,11 +216,9 @@ static void test_limits(void)
     EXPECT_ANSWER(PIGROZD_OUTPUT_SHORT, PIGROZD_HOLD_LIMIT);
 }
 
-/* a plan that is mended: tables 0 with (2 with 1), where 0 and 1 share attribute 1 and 1 and 2 attribute 2. Table 0 has one row
- * and 2 has two, so the join follows 2 with (1 with 0): the words needed are 8 * 7, and the rows of 2 and of 1 */
-static void test_mended(void)
+/* three tables, where 0 and 1 share attribute 1, and 1 and 2 attribute 2 */
+static void put_chain(void)
 {
-    static const uint32_t wanted[] = {9, 5, 8, 6, 9, 5, 7, 6};
     unsigned i;
 
     length = 0;
@@ -237,12 +235,125 @@ static void test_mended(void)
     put_word(7);
     put_word(6);
     put_word(6);
-    put_plan("\377\0\377\2\1", 5);
+}
+
+/* that the chain is joined by 2 with (1 with 0): the words needed are 8 * 7, and the rows of 2 and of 1 */
+static void expect_chain(void)
+{
+    static const uint32_t wanted[] = {9, 5, 8, 6, 9, 5, 7, 6};
+    unsigned i;
+
     EXPECT(lent(61, 8).number, PIGROZD_SCRATCH_SHORT);
     EXPECT(lent(61, 8).detail, 62);
+    EXPECT(lent(62, 7).number, PIGROZD_OUTPUT_SHORT);
+    EXPECT(lent(62, 7).detail, 2);
+    memset(output, 0, sizeof wanted);
     EXPECT(lent(62, 8).number, PIGROZD_JOINED);
     for (i = 0; i < 8; i++)
         EXPECT(output[i], wanted[i]);
+}
+
+/* a plan that is mended: tables 0 with (2 with 1). Table 0 has one row and 2 has two, so the join follows 2 with (1 with 0) */
+static void test_mended(void)
+{
+    put_chain();
+    put_plan("\377\0\377\2\1", 5);
+    expect_chain();
+}
+
+/* whether so many words still hold what memset put into each of their bytes */
+static int is_filled(const uint32_t *words, size_t count, unsigned byte)
+{
+    size_t i;
+    for (i = 0; i < count; i++)
+        if (words[i] != byte * 0x1010101u)
+            return 0;
+    return 1;
+}
+
+/* tables without rows and without a plan, by their masks */
+static void put_masks(const uint32_t *masks, unsigned tables)
+{
+    unsigned i;
+    length = 0;
+    for (i = 0; i < tables; i++)
+        put_table(masks[i], 0);
+    put_plan("", 0);
+}
+
+/* a plan of no bytes: one is found */
+static void test_found(void)
+{
+    pigrozd_answer found, given;
+    unsigned i;
+
+    put_chain();
+    put_plan("", 0);
+    expect_chain();
+    found = answer();
+    put_chain();
+    put_plan("\377\2\377\1\0", 5);
+    given = answer();
+    EXPECT(memcmp(&found, &given, sizeof found), 0);
+
+    length = 0;
+    put_table(1, 1);
+    put_word(77);
+    put_plan("", 0);
+    EXPECT_ANSWER(PIGROZD_JOINED, 0);
+    EXPECT(output[0], 77);
+
+    length = 0;
+    put_plan("", 0);
+    EXPECT_ANSWER(PIGROZD_NOT_A_PLAN, 0);
+
+    /* the most tables, rows and scratch */
+    length = 0;
+    for (i = 0; i < PIGROZD_MOST_TABLES; i++) {
+        put_table(1, PIGROZD_MOST_ROWS);
+        put_column(PIGROZD_MOST_ROWS);
+    }
+    put_plan("", 0);
+    EXPECT(lent(PIGROZD_MOST_SCRATCH_WORDS - 1, 0).number, PIGROZD_SCRATCH_SHORT);
+    EXPECT(lent(PIGROZD_MOST_SCRATCH_WORDS - 1, 0).detail, PIGROZD_MOST_SCRATCH_WORDS);
+    EXPECT(answer().number, PIGROZD_JOINED);
+    EXPECT(answer().rows, PIGROZD_MOST_ROWS);
+}
+
+/* tables for which no plan is found: three that share in a ring, alone and behind two that can be hung */
+static void test_not_found(void)
+{
+    static const uint32_t ring[] = {3, 5, 6}, behind[] = {1, 9, 3, 6, 5};
+    pigrozd_answer given;
+    unsigned i;
+
+    EXPECT(PIGROZD_NO_PLAN_FOUND, 14);
+    put_masks(ring, 3);
+    EXPECT_ANSWER(PIGROZD_NO_PLAN_FOUND, 0);
+    put_byte(0);
+    EXPECT_ANSWER(PIGROZD_BEHIND_PLAN, length - 1);
+    put_masks(behind, 5);
+    EXPECT_ANSWER(PIGROZD_NO_PLAN_FOUND, 2);
+
+    /* with rows, and too little scratch or enough: the buffers are as they were, and all else is 0 */
+    length = 0;
+    for (i = 0; i < 3; i++) {
+        put_table(ring[i], 1);
+        put_word(7);
+        put_word(7);
+    }
+    put_plan("", 0);
+    for (i = 0; i < 2; i++) {
+        memset(scratch, 0xa5, sizeof scratch);
+        memset(output, 0x5a, sizeof output);
+        given = lent(i == 0 ? 0 : PIGROZD_MOST_SCRATCH_WORDS, i == 0 ? 0 : PIGROZD_MOST_OUTPUT_WORDS);
+        EXPECT(given.number, PIGROZD_NO_PLAN_FOUND);
+        EXPECT(given.detail, 0);
+        EXPECT(given.rows, 0);
+        EXPECT(given.entries + given.lookups + given.comparisons + given.visits, 0);
+        EXPECT(is_filled(scratch, PIGROZD_MOST_SCRATCH_WORDS, 0xa5), 1);
+        EXPECT(is_filled(output, PIGROZD_MOST_OUTPUT_WORDS + 1, 0x5a), 1);
+    }
 }
 
 /* a table of one row, with these values in the attributes of its mask */
@@ -310,6 +421,8 @@ int main(void)
     test_answers();
     test_limits();
     test_mended();
+    test_found();
+    test_not_found();
     test_not_recorded();
     test_lengths();
     test_version();

@@ -14,7 +14,9 @@ same() { # WHAT WANTED FOUND
 
 # name and number of each answer
 sed -n 's/^    \(PIGROZD_[A-Z_]*\) = \([0-9]*\).*/\1 \2/p' include/pigrozd.h >"$room/answers"
-sed -n 's/^\(PIGROZD_[A-Z_]*\)	\([0-9]*\)	.*/\1 \2/p' man/pigrozd_join.3 | head -n 13 >"$room/manual"
+sed -n 's/^\(PIGROZD_[A-Z_]*\)	\([0-9]*\)	.*/\1 \2/p' man/pigrozd_join.3 >"$room/names"
+count=$(wc -l <"$room/answers")
+head -n "$count" "$room/names" >"$room/manual"
 sed -n 's/^| \[\([0-9]*\)\].*| `\(PIGROZD_[A-Z_]*\)` |$/\2 \1/p' docs/answers/README.md >"$room/table"
 same 'the manual page has other answers' answers manual
 same 'docs/answers has other answers' answers table
@@ -27,7 +29,7 @@ same 'docs/answers says other words' meanings table
 # the limits
 sed -n 's/^#define \(PIGROZD_MOST_[A-Z_]*\|PIGROZD_HOLD_LIMIT\) \([0-9]*\).*/\1 \2/p' include/pigrozd.h |
     grep -v -e PIGROZD_MOST_BYTES -e PIGROZD_MOST_WORDS >"$room/limits"
-sed -n 's/^\(PIGROZD_[A-Z_]*\)	\([0-9]*\)	.*/\1 \2/p' man/pigrozd_join.3 | tail -n +14 >"$room/manual"
+tail -n +$((count + 1)) "$room/names" >"$room/manual"
 same 'the manual page has other limits' limits manual
 
 # the word of a value that was not recorded

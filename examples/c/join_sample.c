@@ -1,4 +1,5 @@
-/* Joins the sample of docs/SPECIFICATION.md, made here from columns, and prints what the proved program prints of it.
+/* Joins the tables of the sample of docs/SPECIFICATION.md, made here from columns, without a plan: the join finds one. It prints
+ * what the proved program prints of such a file.
  *
  *     cc -Iinclude -o join_sample examples/c/join_sample.c target/lib/libpigrozd.a
  *
@@ -17,9 +18,6 @@ enum { WIDTH = 4 };
 static const uint32_t frames[] = {10, 11, 12, 13, 1, 2, 2, 4};
 static const uint32_t exposures[] = {1, 2, 2, 3, 7, 8, 9, 7};
 static const uint32_t readings[] = {7, 7, 9, 29510, 29510, 29530};
-
-/* frames with (exposures with readings): 255 is a join, and the left and the right plan follow. */
-static const uint8_t plan[] = {255, 0, 255, 1, 2};
 
 static uint8_t file[1024];
 static size_t length;
@@ -48,14 +46,13 @@ static void put_table(uint32_t mask, uint32_t rows, const uint32_t *values, size
         put_word(values[i]);
 }
 
-static void put_plan(void)
+/* A plan of no bytes: the join finds one, readings with (exposures with frames). As bytes it would be 255, 2, 255, 1, 0: 255 is a
+ * join, and the left and the right plan follow. So the rows come in the order of the readings. */
+static void put_no_plan(void)
 {
-    size_t i;
     put_byte('P');
     put_byte('L');
-    put_byte(sizeof plan);
-    for (i = 0; i < sizeof plan; i++)
-        put_byte(plan[i]);
+    put_byte(0);
 }
 
 int main(void)
@@ -68,7 +65,7 @@ int main(void)
     put_table(3, 4, frames, 8);
     put_table(6, 4, exposures, 8);
     put_table(12, 3, readings, 6);
-    put_plan();
+    put_no_plan();
 
     /* Asked without scratch, the join says how much it needs. */
     answer = pigrozd_join(file, length, scratch, 0, output, 64);
@@ -81,6 +78,7 @@ int main(void)
         free(scratch);
     }
 
+    /* If no plan could be found, the number would be PIGROZD_NO_PLAN_FOUND. */
     if (answer.number != PIGROZD_JOINED) {
         printf("refused %" PRIu64 " %" PRIu64 "\n", answer.number, answer.detail);
         return 1;
