@@ -150,7 +150,7 @@ pub fn report(file: &[u8], scratch: &mut [u32], output: &mut [u32])
     let number = figures.number;
     match number {
         0 => print_joined(file, output, figures),
-        1..=12 => refuse(number, figures.detail),
+        1..=12 | 14 => refuse(number, figures.detail),
         _ => {
             io::write_all(1, b"no such answer\n");
         }

@@ -21,7 +21,7 @@ use Rattle.semantics.proofs.TableSets.{member-each}
 use Rattle.semantics.proofs.Hangings.{in-without, length-without, rising-without, step-ear, step-none, step-lowest}
 
 -- of two numbers of which neither is below the other
-neither : (x y : ℕ) → (x < y → ⊥) → (y < x → ⊥) → x ≡ y
+pub neither : (x y : ℕ) → (x < y → ⊥) → (y < x → ⊥) → x ≡ y
 neither x y f g = cases (ltb x y) (λ h. absurd (f (ltb-true x y h))) (λ h. cases (ltb y x) (λ k. absurd (g (ltb-true y x k))) (λ k. omega (arith, ltb-false x y h, ltb-false y x k)))
 
 member-long : (x : ℕ) (xs : List ℕ) → member xs x ≡ true → 0 < length xs

@@ -30,6 +30,7 @@ pub mod Stuck
 pub mod Forests
 pub mod FoundPlans
 pub mod Eliminating
+pub mod LastRoots
 pub mod Choices
 pub mod Reading
 pub mod Values
