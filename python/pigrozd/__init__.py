@@ -7,15 +7,16 @@
         "exposures": {"exposure": [1, 2, 2, 3], "reading": [7, 8, 9, 7]},
         "readings": {"reading": [7, 7, 9], "centikelvin": [29510, 29510, 29530]},
     }
-    result = pigrozd.join(tables, "(frames (exposures readings))")
+    result = pigrozd.join(tables)
     result.names                # ('frame', 'exposure', 'reading', 'centikelvin')
     list(result)[0]             # (10, 1, 7, 29510)
     result.columns["frame"]     # array('I', [10, 10, 11, 12])
-    result.plan                 # '(frames (exposures readings))'
+    result.plan                 # '(readings (exposures frames))'
 
 Columns with one name, in different tables, are joined. None is a value that was not recorded: it matches nothing, and
-comes back where its column is in one table only. A plan that is not well-behaved is mended, and result.plan is the
-plan that was followed. What cannot be joined raises Refused, TypeError or ValueError.
+comes back where its column is in one table only. The library finds a plan, or takes the one that is given, as in
+join(tables, "(frames (exposures readings))"), and mends it if it is not well-behaved; result.plan is the plan that was
+followed. What cannot be joined raises Refused, TypeError or ValueError.
 docs/PYTHON.md says more; `python3 -m pigrozd --help` joins CSV files.
 """
 from .answers import MEANINGS, Refused

@@ -15,9 +15,9 @@ from .messages import InputError
 from .streams import PROGRAM, tell, write_out
 from .values import LARGEST
 
-ABOUT = """Joins tables. `pigrozd join a.csv b.csv --plan '(a b)'` joins CSV files; the other commands are for packed
-files: tables and a plan in one file, as document 01 says. `pigrozd COMMAND --help` says more of each, docs/TOOLS.md
-has examples."""
+ABOUT = """Joins tables. `pigrozd join a.csv b.csv c.csv` joins CSV files by a plan that is found for them, or by the
+one that --plan gives; the other commands are for packed files, which are tables in one file, with a plan or without
+one, as document 01 says, and for plans. `pigrozd COMMAND --help` says more of each, docs/TOOLS.md has examples."""
 
 
 def main(arguments: Optional[Sequence[str]] = None) -> int:
@@ -120,15 +120,16 @@ def add_join(subparsers: Any) -> None:
         "Joins CSV files, or one packed file, and writes the rows as CSV. The first line "
         "of a CSV file has the names of its attributes; attributes with one name are joined. A table is called as "
         "its file, without folder and ending. Values are 0 to %d; an empty cell is a value that was not recorded, and "
-        "matches nothing. One file whose name does not end in .csv is a packed file." % LARGEST,
+        "matches nothing. One file whose name does not end in .csv is a packed file. Without --plan the library finds "
+        "a plan, if there is one, for CSV files and for a packed file that has none." % LARGEST,
     )
     p.add_argument(
         "files", metavar="FILE", nargs="+", help="CSV files, up to 16 of up to 4,096 rows; or a packed file"
     )
     p.add_argument(
         "--plan",
-        help="such as '(frames (exposures readings))'; needed where there are several CSV files, and in "
-        "place of its own with a packed file",
+        help="join by this plan, such as '(frames (exposures readings))' (without this: by the one that is found, or "
+        "that a packed file has)",
     )
     p.add_argument(
         "-o", "--output", metavar="OUT", default="-", help="the file to write (without this, or -: standard output)"
@@ -146,12 +147,16 @@ def add_pack(subparsers: Any) -> None:
     p = add_command(
         subparsers,
         commands.pack,
-        "Packs CSV files, read as `pigrozd join` reads them, and a plan into the file OUT; "
+        "Packs CSV files, read as `pigrozd join` reads them, into the file OUT, with a plan or without one; "
         "the names are kept in OUT.names. What was packed before is replaced, other files are not.",
     )
     p.add_argument("out", metavar="OUT", help="the file to write; OUT.names gets the names")
     p.add_argument("files", metavar="CSV", nargs="+", help="the tables, in the order of their numbers")
-    p.add_argument("--plan", help="such as '(frames (exposures readings))'; needed where there are several tables")
+    p.add_argument(
+        "--plan",
+        help="the plan of the file, such as '(frames (exposures readings))' (without this: the file has a plan of "
+        "length 0, and the library finds one)",
+    )
     add_csv_options(p)
     p.add_argument("--anyway", action="store_true", help="write the file though it will be refused")
     p.add_argument(
@@ -188,7 +193,7 @@ def add_dump(subparsers: Any) -> None:
         subparsers,
         commands.dump,
         "Shows any file: records with offsets, masks, columns, plan. The byte that an "
-        "answer's detail points at is marked: the answer given, or else the first one from 1 to 9 that is due.",
+        "answer's detail points at is marked: the answer given, or else the first one of 1 to 9 and 14 that is due.",
     )
     p.add_argument("file", metavar="FILE")
     p.add_argument("--answer", metavar=("NUMBER", "DETAIL"), nargs=2, type=int, help="as in: refused NUMBER DETAIL")
@@ -202,11 +207,18 @@ def add_plan(subparsers: Any) -> None:
         commands.plan,
         "Draws a plan: each join with its key, the tables that are compared and their "
         "rows. A plan that is not well-behaved is drawn as sent, with what is chosen at each join, and as mended, "
-        "which is how the join follows it. The status is 1 if the plan is refused. FILE alone: its own plan; with "
-        "--plan another one for its tables. PLAN --tables: a plan for CSV files, or for tables to come, whose rows "
-        "are not known, so that a mended plan cannot be drawn.",
+        "which is how the join follows it. Where there is no plan the one that is found is drawn, with which table "
+        "hangs under which; or the tables that remain and what they share, if none can be found. The status is 1 if "
+        "the plan is refused or none can be found. FILE alone: its own plan, or the one that is found; with "
+        "--plan another one for its tables. --tables: CSV files, or tables to come, whose rows are not known, so that "
+        "a mended plan cannot be drawn; with PLAN before it a plan for them, without PLAN the one that is found.",
     )
-    p.add_argument("what", metavar="FILE|PLAN", help="a packed file; with --tables a plan, such as '(a (b c))'")
+    p.add_argument(
+        "what",
+        metavar="FILE|PLAN",
+        nargs="?",
+        help="a packed file; with --tables a plan, such as '(a (b c))' (without this: the one that is found)",
+    )
     p.add_argument("--plan", help="draw this plan in place of the file's own")
     p.add_argument("--tables", metavar="TABLE", nargs="+", help="CSV files, or NAME=ATTRIBUTE,ATTRIBUTE,..")
     p.add_argument(

@@ -3,11 +3,11 @@ import argparse
 import os
 import re
 import shlex
-from typing import List, Optional, Sequence, Tuple
+from typing import List, Optional, Sequence, Tuple, Union
 
 from . import csvfiles, dumps, fileformat, files, plans
-from .answers import LAST_OF_PLANS, LAST_OF_RECORDS, MEANINGS, Refused
-from .drawing import Drawing
+from .answers import LAST_OF_PLANS, LAST_OF_RECORDS, MEANINGS, NONE_FOUND, Refused
+from .drawing import Drawing, DrawingOfStuck, drawing_without_plan
 from .joining import join_bytes
 from .limits import PROGRAM_BYTES, PROGRAM_WORDS
 from .messages import InputError, count
@@ -18,6 +18,7 @@ from .values import values_of, word_of_text
 DONE, REFUSED, UNUSABLE = 0, 1, 2  # how a command ends
 
 Arguments = argparse.Namespace
+Drawn = Union[Drawing, DrawingOfStuck]
 
 
 # ---- what is joined
@@ -48,6 +49,8 @@ def refused_file(path: str, refused: Refused, plan: Optional[str] = None) -> int
         hint = "; %s shows it" % command_text("dump", operand(path))
     elif refused.number == LAST_OF_PLANS and plan is not None:
         hint = "; %s shows it" % command_text("plan", operand(path), *option("--plan", plan))
+    elif refused.number == NONE_FOUND:
+        hint = "; %s shows it" % command_text("plan", operand(path))
     tell("%s: %s%s" % (path, refused, hint))
     return REFUSED
 
@@ -65,6 +68,13 @@ def option(name: str, value: str) -> List[str]:
 def operand(path: str) -> str:
     """A file's name in a command. One that begins with a dash gets its folder, or it would be an option."""
     return os.path.join(os.curdir, path) if path.startswith("-") else path
+
+
+def command_for_tables(paths: Sequence[str]) -> str:
+    """The command that draws the plan that is found for CSV files, or what remains of them. A file's name with = in it
+    gets its folder, or it would be a table to come."""
+    words = [os.path.join(os.curdir, path) if GIVEN_TABLE.fullmatch(path) else operand(path) for path in paths]
+    return command_text("plan", "--tables", *words)
 
 
 def load_inputs(a: Arguments) -> Tuple[bytes, Names]:
@@ -95,8 +105,11 @@ def join(a: Arguments) -> int:
     except Refused as refused:
         if is_packed(a.files):
             return refused_file(a.files[0], refused, a.plan)
-        drawn = refused.number == LAST_OF_PLANS and not a.explain
-        tell("%s%s" % (refused, "; --explain draws the plan" if drawn else ""))
+        hints = {
+            LAST_OF_PLANS: "; --explain draws the plan",
+            NONE_FOUND: "; %s shows it" % command_for_tables(a.files),
+        }
+        tell("%s%s" % (refused, "" if a.explain else hints.get(refused.number, "")))
         return REFUSED
 
 
@@ -106,11 +119,11 @@ def join_and_write(a: Arguments) -> int:
         files.refuse_target(a.output, a.files + [path + NAMES_ENDING for path in a.files])
     data, names = load_inputs(a)
     file = fileformat.read(data, names)
-    drawing = Drawing(file.plan, file.tables, names) if a.explain and file.plan else None
+    drawing = drawing_of(file, names) if a.explain else None
     if drawing:
         tell("\n".join(drawing.tree(followed_alone=True)), prefix="")
     result = join_bytes(data, names)
-    if drawing:
+    if isinstance(drawing, Drawing):
         tell("\n".join([""] + drawing.work(result)), prefix="")
     text = csvfiles.columns_text([(int(attribute), values) for attribute, values in result.columns.items()], names)
     if a.output == "-":
@@ -118,6 +131,13 @@ def join_and_write(a: Arguments) -> int:
     else:
         files.save([(a.output, text.encode("utf-8"))])
     return DONE
+
+
+def drawing_of(file: fileformat.File, names: Names) -> Optional[Drawn]:
+    """The drawing of a file's own plan, or of the one that is found; None if it has a plan that cannot be drawn."""
+    if file.found:
+        return drawing_without_plan(file.tables, names)
+    return Drawing(file.plan, file.tables, names) if file.plan else None
 
 
 # ---- pack
@@ -132,13 +152,12 @@ def pack(a: Arguments) -> int:
     data, names = csvfiles.pack(sheets, a.plan, a.attributes, a.text)
     file = fileformat.read(data, names)
     if file.fault and not a.anyway:
-        tell("%s; nothing is written (--anyway writes it, pigrozd plan draws it)" % file.fault)
+        draws = command_for_tables(a.files) if file.found else "pigrozd plan"
+        tell("%s; nothing is written (--anyway writes it, %s draws it)" % (file.fault, draws))
         return REFUSED
     files.save([(a.out, data), (named, names_text(names, data).encode("utf-8"))])
-    write_out(
-        "%s: %s, %s, %s\n"
-        % (a.out, count(len(data), "byte"), count(len(file.tables), "table"), count(file.row_count(), "row"))
-    )
+    sizes = [count(len(data), "byte"), count(len(file.tables), "table"), count(file.row_count(), "row")]
+    write_out("%s: %s%s\n" % (a.out, ", ".join(sizes), ", no plan" if file.found else ""))
     note = program_refuses(file)
     if note:
         tell("note: " + note)
@@ -188,21 +207,22 @@ def unpack(a: Arguments) -> int:
             raise InputError("%s is there already (--force replaces it)" % path)
     os.makedirs(a.dir, exist_ok=True)
     files.save([(path, text.encode("utf-8")) for path, text in zip(paths, texts)])
-    if file.fault or not file.plan:
-        tell("%s: the tables are written, but the plan is bad: %s" % (a.file, file.fault))
+    if file.fault:
+        bad = "" if file.found else "the plan is bad: "
+        tell("%s: the tables are written, but %s%s" % (a.file, bad, file.fault))
         return REFUSED
     write_out(command_to_pack(a.file, file, names, paths) + "\n")
     return DONE
 
 
 def command_to_pack(out: str, file: fileformat.File, names: Names, paths: Sequence[str]) -> str:
-    """The command that makes the same file of the CSV files."""
+    """The command that makes the same file of the CSV files. It names no plan if the file has none."""
     used = plans.width(file.tables)
     attributes = csvfiles.csv_line(
         [names.attribute(n) if n in used else "" for n in range(max(used, default=-1) + 1)]
     )
-    plan = plans.to_text(file.plan, names.table) if file.plan else ""
-    options = option("--plan", plan) + option("--attributes", attributes)
+    options = option("--plan", plans.to_text(file.plan, names.table)) if file.plan else []
+    options += option("--attributes", attributes)
     texts = [names.attribute(n) for n in used if n in names.texts]
     if texts:
         options += option("--text", csvfiles.csv_line(texts))
@@ -239,6 +259,8 @@ def what_helps(path: str, refused: Refused) -> str:
     if refused.number <= LAST_OF_PLANS:
         answer = (str(refused.number), str(refused.detail))
         return "%s shows the place" % command_text("dump", operand(path), "--answer", *answer)
+    if refused.number == NONE_FOUND:
+        return "%s shows why" % command_text("plan", operand(path))
     if refused.number == 12:
         return "it is never given, and docs/answers/12.md says what to look at"
     return "%s has more room" % command_text("join", operand(path))
@@ -288,10 +310,15 @@ def dump(a: Arguments) -> int:
 
 
 # ---- plan
+GIVEN_TABLE = re.compile("([^=/]+)=(.+)", re.DOTALL)  # a table of --tables that is no CSV file: NAME=ATTRIBUTE,..
+
+
 def plan(a: Arguments) -> int:
-    """Draws a plan, and the plan that the join follows in its place. The status is 1 if it is refused."""
+    """Draws a plan, and the plan that the join follows in its place, or finds. The status is 1 if it is refused."""
     if a.tables and a.plan is not None:
         raise InputError("--plan goes with a FILE, --tables with a PLAN")
+    if not a.tables and a.what is None:
+        raise InputError("a packed FILE is wanted, or --tables, with a PLAN before it or without one")
     if not a.tables and a.what.startswith("("):
         raise InputError("a PLAN needs --tables")
     try:
@@ -304,29 +331,31 @@ def plan(a: Arguments) -> int:
     return REFUSED if drawing.refused else DONE
 
 
-def drawing_of_file(path: str, text: Optional[str]) -> Drawing:
-    """The drawing of a packed file's plan, or of another plan for its tables."""
+def drawing_of_file(path: str, text: Optional[str]) -> Drawn:
+    """The drawing of a packed file's plan, or of the one that is found for it, or of another plan for its tables."""
     data, names = load_packed(path)
     file = fileformat.read(data, names)
-    if file.fault and file.fault.number <= (LAST_OF_RECORDS if text is not None else LAST_OF_PLANS - 1):
+    drawing = drawing_of(file, names) if text is None else None
+    if file.fault and not drawing and (text is None or file.fault.number <= LAST_OF_RECORDS):
         raise file.fault
-    if text is None and file.plan:
-        return Drawing(file.plan, file.tables, names)
-    return checked_drawing(text or "", file.tables, names)
+    return drawing or checked_drawing(text or "", file.tables, names)
 
 
-def drawing_of_tables(text: str, given: Sequence[str]) -> Drawing:
-    """The drawing of a plan for CSV files, or for tables given as NAME=ATTRIBUTE,ATTRIBUTE."""
+def drawing_of_tables(text: Optional[str], given: Sequence[str]) -> Drawn:
+    """The drawing of a plan for CSV files, or for tables given as NAME=ATTRIBUTE,ATTRIBUTE; without a plan, of the one
+    that is found for them."""
     sheets = [given_table(table) for table in given]
     names = csvfiles.names_of([sheet for sheet, _ in sheets])
     shapes = [plans.Shape(csvfiles.attributes_of(sheet, names), rows) for sheet, rows in sheets]
-    return checked_drawing(text, shapes, names)
+    return drawing_without_plan(shapes, names) if text is None else checked_drawing(text, shapes, names)
 
 
 def given_table(text: str) -> Tuple[csvfiles.Sheet, Optional[int]]:
     """A table of --tables with its number of rows: a CSV file, or NAME=ATTRIBUTE,.. whose rows are not known."""
-    found = re.fullmatch("([^=/]+)=(.+)", text, re.DOTALL)
+    found = GIVEN_TABLE.fullmatch(text)
     if not found:
+        if text.startswith("(") and not os.path.exists(text):
+            raise InputError("%s is no file; a PLAN stands before --tables" % text)
         sheet = csvfiles.read(text)
         return sheet, len(sheet.rows)
     sheet = csvfiles.Sheet(text)

@@ -177,19 +177,15 @@ def attributes_of(sheet: Sheet, names: Names) -> List[int]:
 def pack(
     sheets: Sequence[Sheet], plan: Optional[str], attributes: Optional[str] = None, texts: Optional[str] = None
 ) -> Tuple[bytes, Names]:
-    """The bytes of a file with these tables and this plan, and its names. Attributes named in `texts` hold texts."""
+    """The bytes of a file with these tables and this plan, and its names. Without a plan the file has one of length 0,
+    so that the library finds it. Attributes named in `texts` hold texts."""
     names = names_of(sheets, attributes)
     for text in name_list(texts, "--text") if texts else []:
         numbers = [number for number, name in names.attributes.items() if name == text]
         if not numbers:
             raise InputError("--text %s: no attribute is called %s" % (texts, text))
         names.texts[numbers[0]] = {}
-    if plan is None and len(sheets) > 1:
-        raise InputError(
-            "--plan is missing: it says how %s are joined, such as '(%s %s)'"
-            % (count(len(sheets), "table"), sheets[0].name, sheets[1].name)
-        )
-    code = plans.code_of(0 if plan is None else plan, [sheet.name for sheet in sheets])
+    code = plans.code_of(b"" if plan is None else plan, [sheet.name for sheet in sheets])
     return b"".join(record_of(sheet, names) for sheet in sheets) + plan_record(code), names
 
 

@@ -1,39 +1,54 @@
-"""A plan drawn, as it was sent and as the join follows it: as a text tree, and as Graphviz DOT. And the work of a join
-beside its bound."""
-from typing import Callable, List, Sequence, Tuple
+"""A plan drawn, as it was sent, or found, and as the join follows it: as a text tree, and as Graphviz DOT. So are
+tables for which no plan can be found. And the work of a join beside its bound."""
+from typing import Callable, List, Optional, Sequence, Tuple, Union
 
-from . import mending, plans
-from .answers import MEANINGS
+from . import finding, mending, plans
+from .answers import MEANINGS, NONE_FOUND
 from .messages import count
 from .names import Names
 from .results import Result
 
 Describe = Callable[[plans.Join], List[str]]  # the lines that a join has in a drawing
 Part = Tuple[str, plans.Plan, Describe]  # a plan that is drawn, with its title, which is empty if it is the only one
+DOT_HEAD = ["digraph plan {", "    graph [ordering=out];", "    node [shape=box, fontname=monospace];"]
 
 
-class Drawing:
-    """A plan with the tables that it joins. `refused` are the joins with a side that has no holder; `mended` has the
-    plan that the join follows, if there are none and it can be told."""
+class DrawnTables:
+    """The tables of a drawing, in words."""
 
-    def __init__(self, plan: plans.Plan, tables: Sequence[plans.Shape], names: Names) -> None:
-        self.plan, self.tables, self.names = plan, tables, names
+    def __init__(self, tables: Sequence[plans.Shape], names: Names) -> None:
+        self.tables, self.names = tables, names
+
+    def rows(self, table: int) -> str:
+        """A table's number of rows, in words."""
+        rows = self.tables[table].rows
+        return "rows not known" if rows is None else count(rows, "row")
+
+    def table(self, table: int) -> List[str]:
+        """A table in words: its name, its number of rows, its attributes."""
+        return [self.names.table(table), self.rows(table), self.names.list(self.tables[table].attributes)]
+
+
+class Drawing(DrawnTables):
+    """A plan with the tables that it joins. `found` is there if none was sent, and this one was found. `refused` are
+    the joins with a side that has no holder; `mended` has the plan that the join follows, if there are none and it can
+    be told."""
+
+    def __init__(
+        self,
+        plan: plans.Plan,
+        tables: Sequence[plans.Shape],
+        names: Names,
+        found: Optional[finding.Found] = None,
+    ) -> None:
+        super().__init__(tables, names)
+        self.plan, self.found = plan, found
         self.refused = [join for join in plans.joins_of(plan) if plans.without_holder(join, tables)]
         self.mended = mending.mend(plan, tables)
         choices = self.mended.choices if self.mended else ()
         self.choices = {choice.join.index: choice for choice in choices}
 
     # ---- words
-    def rows(self, table: int) -> str:
-        """A table's number of rows, in words."""
-        rows = self.tables[table].rows
-        return "rows not known" if rows is None else count(rows, "row")
-
-    def leaf(self, leaf: plans.Leaf) -> List[str]:
-        """A table in words: its name, its number of rows, its attributes."""
-        t = leaf.table
-        return [self.names.table(t), self.rows(t), self.names.list(self.tables[t].attributes)]
-
     def head(self, join: plans.Join) -> str:
         """The first line of a join: its key, and the place of its byte."""
         key = self.names.list(plans.key(join, self.tables)) or "nothing (every pair matches)"
@@ -72,10 +87,16 @@ class Drawing:
         if self.mended is None:
             lines = ["the plan is not well-behaved: it is mended by the tables' rows, which are not all known here"]
         else:
-            lines = mending.in_words(self.plan, self.mended, self.names)
+            lines = self.followed_in_words(self.mended)
             if all(table.rows is not None for table in self.tables):
                 lines.append("scratch needed: " + count(plans.words_needed(self.mended.plan, self.tables), "word"))
         return lines + ["a result: " + self.names.list(plans.width(self.tables))]
+
+    def followed_in_words(self, mended: mending.Mended) -> List[str]:
+        """Which plan the join follows, and how it was found or mended."""
+        if self.found:
+            return finding.in_words(self.found, self.names)
+        return mending.in_words(self.plan, mended, self.names)
 
     # ---- plans
     def parts(self, followed_alone: bool) -> List[Part]:
@@ -100,7 +121,7 @@ class Drawing:
     def draw_text(self, plan: plans.Plan, describe: Describe, first: str, others: str, lines: List[str]) -> None:
         """Draws a plan. `first` stands before its first line, `others` before all lines below it."""
         if isinstance(plan, plans.Leaf):
-            lines.append("%s%s: %s (%s)" % (first, *self.leaf(plan)))
+            lines.append("%s%s: %s (%s)" % (first, *self.table(plan.table)))
             return
         head, *below = describe(plan)
         lines.append(first + head)
@@ -111,7 +132,7 @@ class Drawing:
     # ---- DOT
     def dot(self) -> List[str]:
         """The lines of a Graphviz file."""
-        lines = ["digraph plan {", "    graph [ordering=out];", "    node [shape=box, fontname=monospace];"]
+        lines = DOT_HEAD[:]
         for letter, (title, plan, describe) in zip("nm", self.parts(followed_alone=False)):
             if title:
                 lines += ["    subgraph cluster_%s {" % letter, "    label=%s;" % quoted([title])]
@@ -124,7 +145,7 @@ class Drawing:
         """Draws a plan; the name of its node, which begins with this letter."""
         node = "%s%d" % (letter, plan.index)
         if isinstance(plan, plans.Leaf):
-            lines.append("    %s [label=%s];" % (node, quoted(self.leaf(plan))))
+            lines.append("    %s [label=%s];" % (node, quoted(self.table(plan.table))))
             return node
         lines.append("    %s [label=%s, style=rounded%s];" % (node, quoted(describe(plan)), self.color(plan)))
         for side, child in plans.named_sides(plan):
@@ -154,6 +175,52 @@ class Drawing:
         counted.append(("work: entries to values written", sum(number for _, number in counted[2:])))
         counted.append(("bound: (32a + 2) k IN + (k + w) OUT", bound))
         return ["{:36} {:>13,}".format(*line) for line in counted] + ["       = " + reason]
+
+
+# ---- without a plan
+class DrawingOfStuck(DrawnTables):
+    """Tables for which no plan can be found: those that remain, which are its `refused`, with what they share."""
+
+    def __init__(self, found: finding.Found, tables: Sequence[plans.Shape], names: Names) -> None:
+        super().__init__(tables, names)
+        self.found, self.refused = found, found.stuck
+
+    def verdict(self) -> List[str]:
+        """The answer, which tables were hung before it, and what to do."""
+        answer = "answer %d, detail %d: %s" % (NONE_FOUND, self.refused[0].table, MEANINGS[NONE_FOUND].means)
+        remaining = "%d of %d tables remain" % (len(self.refused), len(self.tables))
+        return ["%s: %s" % (answer, remaining), *finding.hung_in_words(self.found, self.names), finding.HINT]
+
+    def tree(self, followed_alone: bool = False) -> List[str]:
+        """The lines of text: each table that remains, and what it shares with which others. No plan is followed."""
+        lines: List[str] = []
+        for stuck in self.refused:
+            lines.append("%s: %s (%s)" % tuple(self.table(stuck.table)))
+            lines.append("      " + finding.stuck_in_words(stuck, self.names))
+        return lines + [""] + self.verdict()
+
+    def dot(self) -> List[str]:
+        """The lines of a Graphviz file: the tables that remain are red, with lines between those that share
+        attributes; the others have an arrow to the table that they were hung under."""
+        stuck = [table.table for table in self.refused]
+        lines = DOT_HEAD[:]
+        for t in range(len(self.tables)):
+            red = ", color=red, fontcolor=red" if t in stuck else ""
+            lines.append("    t%d [label=%s%s];" % (t, quoted(self.table(t)), red))
+        edges = [(step.table, step.under, list(step.shared), "") for step in self.found.hung]
+        for place, t in enumerate(stuck):
+            for other in stuck[place + 1 :]:
+                shared = finding.shared_by(t, (t, other), self.tables)
+                edges += [(t, other, shared, ", dir=none, color=red")] if shared else []
+        for t, other, shared, style in edges:
+            lines.append("    t%d -> t%d [label=%s%s];" % (t, other, quoted([self.names.list(shared)]), style))
+        return lines + ["    label=%s;" % quoted(self.verdict()), "}"]
+
+
+def drawing_without_plan(tables: Sequence[plans.Shape], names: Names) -> Union[Drawing, DrawingOfStuck]:
+    """The drawing of the plan that is found for tables; or of what remains of them where none can be found."""
+    found = finding.find(tables)
+    return Drawing(found.plan, tables, names, found) if found.plan else DrawingOfStuck(found, tables, names)
 
 
 def quoted(lines: Sequence[str]) -> str:

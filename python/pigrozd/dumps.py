@@ -1,8 +1,8 @@
 """The readable dump of a file, bad ones too. A line has an offset, the bytes from there on, and what they are."""
 from typing import Callable, List, Optional, Tuple
 
-from . import fileformat, mending, plans
-from .answers import LAST_OF_PLANS, LAST_OF_RECORDS, MEANINGS
+from . import fileformat, finding, mending, plans
+from .answers import LAST_OF_PLANS, LAST_OF_RECORDS, MEANINGS, NONE_FOUND
 from .fileformat import File
 from .limits import MOST_ATTRIBUTES, MOST_ROWS, PROGRAM_BYTES
 from .messages import count
@@ -100,7 +100,8 @@ class Dump:
         data, first = self.file.data, at + fileformat.PLAN_HEAD
         self.title(at, "plan")
         self.field(at, at + 2, lambda a, b: "mark of the plan")
-        self.field(at + 2, first, lambda a, b: count(data[a], "byte"))
+        found = ": the library is to find a plan" if self.file.found else ""
+        self.field(at + 2, first, lambda a, b: count(data[a], "byte") + found)
         end = first + data[at + 2] if first <= len(data) else first
         says = plan_in_words(data[first:end], self.file, self.names)
         self.field(first, end, lambda a, b: "index %-3d %s" % (a - first, says[a - first]), per_line=1, whole=True)
@@ -175,7 +176,7 @@ def byte_in_words(byte: int, join: Optional[plans.Join], file: File, names: Name
 
 
 def summary(path: str, file: File, names: Names) -> List[str]:
-    """The first lines of a dump: the file, its answer as far as 9, and the plan that a join follows."""
+    """The first lines of a dump: the file, its answer as far as 9 and 14, and the plan that a join follows."""
     first = "%s: %s, %s, %s" % (
         path,
         count(len(file.data), "byte"),
@@ -184,22 +185,28 @@ def summary(path: str, file: File, names: Names) -> List[str]:
     )
     if file.plan:
         first += ", plan " + plans.to_text(file.plan, names.table)
+    elif file.found:
+        first += ", plan of length 0" + (": the library finds one" if file.found.plan else "")
     lines = [first]
     if file.fault:
         lines.append(str(file.fault))
-    elif file.plan and file.mended:
-        lines.append(
-            "within the rules: no answer from 1 to 9 is due; the scratch needed is %s, a result has %s"
-            % (
-                count(plans.words_needed(file.mended.plan, file.tables), "word"),
-                count(len(plans.width(file.tables)), "value"),
-            )
-        )
-        if file.mended.plan != file.plan:
-            lines += mending.in_words(file.plan, file.mended, names)
+    elif file.mended:
+        lines += followed_in_words(file, file.mended, names)
     if len(file.data) > PROGRAM_BYTES:
         lines.append("the program says 13: it takes files of at most 65,536 bytes")
     return lines
+
+
+def followed_in_words(file: File, mended: mending.Mended, names: Names) -> List[str]:
+    """That no refusal is due as far as the reader goes, and which plan a join follows if it is not the file's own."""
+    first = "within the rules: no answer from 1 to %s is due; the scratch needed is %s, a result has %s" % (
+        "7, and not 14," if file.found else "9",
+        count(plans.words_needed(mended.plan, file.tables), "word"),
+        count(len(plans.width(file.tables)), "value"),
+    )
+    if file.found:
+        return [first, *finding.in_words(file.found, names)]
+    return [first, *(mending.in_words(file.plan, mended, names) if file.plan and mended.plan != file.plan else [])]
 
 
 def doubt(file: File, number: int, detail: int) -> Optional[str]:
@@ -209,7 +216,7 @@ def doubt(file: File, number: int, detail: int) -> Optional[str]:
         return "this file has no more than 65,536 bytes" if len(file.data) <= PROGRAM_BYTES else None
     if fault and (number, detail) != (fault.number, fault.detail):
         return "this file is refused with %d %d" % (fault.number, fault.detail)
-    if not fault and 1 <= number <= LAST_OF_PLANS:
+    if not fault and (1 <= number <= LAST_OF_PLANS or number == NONE_FOUND):
         return "this file is within the rules"
     if number == 10 and file.mended and detail != plans.words_needed(file.mended.plan, file.tables):
         return "this file needs %s" % count(plans.words_needed(file.mended.plan, file.tables), "word")
@@ -230,6 +237,8 @@ def dump(
     mark = fileformat.offset_of(file, number, detail)
     if mark is None and LAST_OF_RECORDS < number <= LAST_OF_PLANS:
         lines.append("nothing is marked: the file has no whole plan record")
+    elif mark is None and number == NONE_FOUND:
+        lines.append("nothing is marked: the file has no table %d" % detail)
     elif mark is not None and mark > len(file.data):
         lines.append("nothing is marked: offset %d is behind the file's end" % mark)
     label = "answer %d, detail %d: %s" % (number, detail, MEANINGS[number].means)

@@ -1,12 +1,12 @@
-"""A file of document 01: its records, read as far as answer 9 goes, and written.
+"""A file of document 01: its records, read as far as the answers 9 and 14 go, and written.
 
 This is the package's one reader and its one writer of the format.
 """
 import struct
 from typing import List, Optional, Sequence, Tuple
 
-from . import mending, plans
-from .answers import LAST_OF_PLANS, LAST_OF_RECORDS, Refused
+from . import finding, mending, plans
+from .answers import LAST_OF_PLANS, LAST_OF_RECORDS, NONE_FOUND, Refused
 from .limits import ATTRIBUTE_NUMBERS, MOST_ATTRIBUTES, MOST_ROWS, MOST_TABLES
 from .names import Names
 from .messages import count
@@ -39,9 +39,10 @@ class Table(plans.Shape):
 class File:
     """What is in a file's bytes.
 
-    `fault` is the first refusal from 1 to 9 that is due, or None. `plan_at` is the offset of a plan record that is
-    whole, `code` has its plan's bytes, and `plan` is its tree if it is spelled right and names each table once.
-    `mended` has the plan that a join follows, if no refusal is due."""
+    `fault` is the first refusal of 1 to 9 and 14 that is due, or None. `plan_at` is the offset of a plan record that
+    is whole, `code` has its plan's bytes, and `plan` is its tree if it is spelled right and names each table once.
+    `found` is there if there are tables and the plan has no bytes: what is found in its place. `mended` has the plan
+    that a join follows, if no refusal is due; one that was found is left as it is."""
 
     def __init__(self, data: bytes) -> None:
         self.data = data
@@ -49,6 +50,7 @@ class File:
         self.plan_at: Optional[int] = None
         self.code = b""
         self.plan: Optional[plans.Plan] = None
+        self.found: Optional[finding.Found] = None
         self.mended: Optional[mending.Mended] = None
         self.fault: Optional[Refused] = None
 
@@ -77,12 +79,7 @@ def read(data: bytes, names: Optional[Names] = None) -> File:
     """The file in these bytes, whatever they are. The names are used in the words of its fault."""
     names = names or Names()
     file = File(data)
-    file.fault = read_tables(file, names) or read_plan_record(file)
-    if file.fault is None:
-        file.fault = plans.check(file.code, file.tables, names)
-        if file.fault is None or file.fault.number == LAST_OF_PLANS:
-            file.plan = plans.from_bytes(file.code)
-            file.mended = mending.mend(file.plan, file.tables)
+    file.fault = read_tables(file, names) or read_plan_record(file) or judge_plan(file, names)
     return file
 
 
@@ -143,12 +140,27 @@ def read_plan_record(file: File) -> Optional[Refused]:
     return None
 
 
+def judge_plan(file: File, names: Names) -> Optional[Refused]:
+    """Reads the plan, or finds one for tables that have none. The refusal of 7 to 9 and 14 that is due, or None."""
+    if file.tables and not file.code:
+        file.found = finding.find(file.tables)
+        file.mended = mending.mend(file.found.plan, file.tables) if file.found.plan else None
+        return finding.refusal(file.found, names)
+    fault = plans.check(file.code, file.tables, names)
+    if fault is None or fault.number == LAST_OF_PLANS:
+        file.plan = plans.from_bytes(file.code)
+        file.mended = mending.mend(file.plan, file.tables)
+    return fault
+
+
 def offset_of(file: File, number: int, detail: int) -> Optional[int]:
     """The offset of the byte that an answer's detail points at, or None if it points at none."""
     if 1 <= number <= LAST_OF_RECORDS:
         return detail
     if LAST_OF_RECORDS < number <= LAST_OF_PLANS and file.plan_at is not None:
         return file.plan_at + PLAN_HEAD + detail
+    if number == NONE_FOUND and detail < len(file.tables):
+        return file.tables[detail].at
     return None
 
 

@@ -4,12 +4,12 @@ import warnings
 from typing import Dict, Optional, Tuple, Union
 
 from . import plans
-from .answers import LAST_OF_PLANS, Refused
+from .answers import LAST_OF_PLANS, NONE_FOUND, Refused
 from .fileformat import File, plan_record, read
 from .files import load
 from .library import Answer, BytesLike, bytes_of, call_with_enough
 from .limits import HIGHEST_COUNT, MOST_OUTPUT
-from .messages import InputError, count
+from .messages import count
 from .names import Names, names_beside
 from .results import Key, Result
 from .tables import GivenTables, records_of
@@ -17,22 +17,24 @@ from .values import Values, column_of_words
 
 
 def join(tables: GivenTables, plan: Optional[plans.GivenPlan] = None) -> Result:
-    """Joins tables by a plan: a Result, or Refused.
+    """Joins tables, by a plan or without one: a Result, or Refused.
 
     tables: a list of tables, or a mapping of table names to tables. A table is a mapping of attributes to columns, a
     pandas DataFrame, a NumPy structured array, or a Result. An attribute is a name or a number from 0 to 31, in all
     tables alike. None, NaN and masked values are not recorded: they match nothing, and come back as None.
 
     plan: a table's name or number, or a pair of plans, such as ("frames", ("exposures", "readings")); or a text, such
-    as "(frames (exposures readings))"; or the plan's bytes, as a file has them. With one table it may be left out. A
-    plan that is not well-behaved is mended: the result names the plan that was followed.
+    as "(frames (exposures readings))"; or the plan's bytes, as a file has them. Without a plan, or with no bytes, the
+    library finds one if there is one. A plan that is not well-behaved is mended. The result names the plan that was
+    followed.
     """
     data, names, keys = packed(tables, plan)
     return join_bytes(data, names, keys)
 
 
 def make_file(tables: GivenTables, plan: Optional[plans.GivenPlan] = None) -> bytes:
-    """The file of these tables and this plan, as bytes. It may still be one that the library refuses."""
+    """The file of these tables and this plan, as bytes; without a plan its plan has length 0, and the library is to
+    find one. It may still be a file that the library refuses."""
     return packed(tables, plan)[0]
 
 
@@ -51,14 +53,9 @@ def join_file(file: Union[str, "os.PathLike[str]", BytesLike]) -> Result:
 
 
 def packed(tables: GivenTables, plan: Optional[plans.GivenPlan]) -> Tuple[bytes, Names, Dict[int, Key]]:
-    """The file of these tables and this plan, its names, and its attributes by number."""
+    """The file of these tables and this plan, of no bytes if it is None; its names, and its attributes by number."""
     records, tables_there, names, keys = records_of(tables)
-    if plan is None:
-        if tables_there != 1:
-            there = count(tables_there, "table")
-            raise InputError("a plan is wanted, such as (0, 1) or '(a b)': there are %s" % there)
-        plan = 0
-    code = plans.code_of(plan, [names.table(number) for number in range(tables_there)])
+    code = plans.code_of(b"" if plan is None else plan, [names.table(number) for number in range(tables_there)])
     return records + plan_record(code), names, keys
 
 
@@ -77,19 +74,21 @@ def join_bytes(data: bytes, names: Names, keys: Optional[Dict[int, Key]] = None)
     return Result(columns, answer.rows, *counts, *followed(file, names))
 
 
-def followed(file: File, names: Names) -> Tuple[str, bytes, bool]:
-    """The plan that the join of a file followed, as text and as bytes, and whether it is another one than the file's.
-    Empty if the reader refuses what the library joined, so that it knows no plan."""
+def followed(file: File, names: Names) -> Tuple[str, bytes, bool, bool]:
+    """The plan that the join of a file followed, as text and as bytes; whether the file's own was mended, so that this
+    is another one; and whether the file has none, so that it was found. Text and bytes are empty if the reader refuses
+    what the library joined, so that it knows no plan."""
+    found = file.found is not None
     if not file.mended:
-        return "", b"", False
+        return "", b"", False, found
     text = plans.to_text(file.mended.plan, names.table_in_plan)
-    return text, file.mended.code, file.mended.code != file.code
+    return text, file.mended.code, not found and file.mended.code != file.code, found
 
 
 def refusal(answer: Answer, file: File, names: Names) -> Refused:
     """The library's refusal of a file, in these names."""
     number, detail = answer.number, answer.detail
-    if number <= LAST_OF_PLANS:
+    if number <= LAST_OF_PLANS or number == NONE_FOUND:
         fault = file.fault
         return fault if fault and (fault.number, fault.detail) == (number, detail) else Refused(number, detail)
     if number == 11:

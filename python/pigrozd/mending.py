@@ -62,7 +62,7 @@ class Mending:
         penalties = self.penalties(plan)
         root = first_cheapest(penalties)
         self.build(plan, root)
-        code = self.code(root)
+        code = plans.code_of_tree(root, self.children)
         choices = sorted(self.choices, key=lambda choice: choice.join.index)
         return Mended(plans.from_bytes(code), code, penalties[root], tuple(choices))
 
@@ -101,11 +101,6 @@ class Mending:
                 if plans.has_all(self.tables[table], key):
                     return table
             level = [child for table in level for child in self.children[table]]
-
-    def code(self, table: int) -> bytes:
-        """The bytes of the plan of a tree: its root, joined with its children's plans in turn."""
-        below = self.children[table]
-        return bytes([plans.JOIN] * len(below) + [table]) + b"".join(map(self.code, below))
 
 
 def first_cheapest(penalties: Dict[int, int]) -> int:

@@ -1,4 +1,5 @@
 """A plan as bytes, as text, as nested pairs and as a tree; the check of a plan (answers 7 to 9); each join's key.
+finding.py has the plan that a join follows where it is given none.
 
 The text of a plan is the name of a table, or (LEFT RIGHT) with two plans in it: (frames (exposures readings)). A table
 may also be given by its number, and a name with blanks or brackets stands in double quotes.
@@ -6,7 +7,7 @@ may also be given by its number, and a name with blanks or brackets stands in do
 import operator
 import re
 from dataclasses import dataclass
-from typing import Any, Callable, Dict, Iterator, List, NamedTuple, Optional, Sequence, Tuple, Union
+from typing import Any, Callable, Dict, Iterator, List, Mapping, NamedTuple, Optional, Sequence, Tuple, Union
 
 from .answers import Refused
 from .limits import MOST_PLAN_BYTES, MOST_TABLES
@@ -65,6 +66,12 @@ def tables_of(plan: Plan) -> List[int]:
 def joins_of(plan: Plan) -> List[Join]:
     """The joins, in the order of their bytes."""
     return [] if isinstance(plan, Leaf) else [plan] + joins_of(plan.left) + joins_of(plan.right)
+
+
+def code_of_tree(table: int, children: Mapping[int, Sequence[int]]) -> bytes:
+    """The bytes of the plan of this table and what hangs under it: it is joined with its children's plans in turn."""
+    below = children[table]
+    return bytes([JOIN] * len(below) + [table]) + b"".join(code_of_tree(child, children) for child in below)
 
 
 # ---- text and pairs
@@ -152,7 +159,7 @@ def code_of_text(text: str, names: Sequence[str]) -> bytes:
         verb = "bracket is" if len(sides) == 1 else "brackets are"
         raise misplaced(text, len(text), "%d %s not closed" % (len(sides), verb))
     if not code:
-        raise misplaced(text, 0, "the plan is empty")
+        raise misplaced(text, 0, "the plan is empty; leave it out, and one is found")
     return bytes(code)
 
 
@@ -193,7 +200,8 @@ def to_text(plan: Plan, called: Callable[[int], str]) -> str:
 
 # ---- the check: answers 7 to 9
 def check(code: bytes, tables: Sequence[Shape], names: Names) -> Optional[Refused]:
-    """The first refusal from 7 to 9 that is due for a plan's bytes, or None."""
+    """The first refusal from 7 to 9 that is due for a plan's bytes, or None. A plan of no bytes is found if there are
+    tables, and is no plan only if there are none: then it is checked here."""
     for number, found in ((7, misspelled(code)), (8, misnamed(code, tables, names))):
         if found:
             return Refused(number, *found)
@@ -205,6 +213,8 @@ def check(code: bytes, tables: Sequence[Shape], names: Names) -> Optional[Refuse
 
 def misspelled(code: bytes) -> Optional[Tuple[int, str]]:
     """The index of the first byte that cannot stand there (the length if the plan ends early) and why, or None."""
+    if not code:
+        return 0, "it has no bytes, and there is no table for which one can be found"
     owed = 1
     for index, byte in enumerate(code):
         if owed == 0:

@@ -25,8 +25,8 @@ class Result:
 
     A column is an array.array of 32-bit words; if a value was not recorded it is a list, with None for the value.
 
-    `plan` is the text of the plan that the join followed, `plan_bytes` has its bytes, and `mended` says whether it is
-    another one than was given. The order of the rows is that of this plan."""
+    `plan` is the text of the plan that the join followed, and `plan_bytes` has its bytes. `mended` says whether it is
+    another one than was given, `found` whether none was given. The order of the rows is that of this plan."""
 
     columns: Dict[Key, Values]
     rows: int
@@ -37,6 +37,7 @@ class Result:
     plan: str
     plan_bytes: bytes
     mended: bool
+    found: bool
 
     @property
     def names(self) -> Tuple[Key, ...]:
