@@ -67,8 +67,8 @@ check-c: lib target/bin/pigrozd
 PYTHON = python3
 
 check-python: lib
-	$(PYTHON) tests/run.py test_library test_products test_mending test_finding test_mended_plans test_python test_not_recorded \
-	    test_formats test_install
+	$(PYTHON) tests/run.py test_library test_products test_mending test_mended_plans test_finding test_found_plans test_python \
+	    test_not_recorded test_formats test_install
 
 check-commands: lib
 	$(PYTHON) tests/run.py test_commands test_join test_damaged test_documents

@@ -55,6 +55,8 @@ join on exposure, byte 0 of the plan
     |-- exposures: 4 rows (exposure, reading)
     `-- readings: 3 rows (reading, centikelvin)
 """
+NO_PLAN = b"PL\0"  # the record of a plan of length 0
+FOUND_PLAN = "(readings (exposures frames))"  # what is found for the sample's tables
 CSVS = [path("examples", "csv", name + ".csv") for name in ("frames", "exposures", "readings")]
 ROWS = "frame,exposure,reading,centikelvin\n10,1,7,29510\n10,1,7,29510\n11,2,9,29530\n12,2,9,29530\n"
 
@@ -66,7 +68,7 @@ def samples():
 
 
 def damaged(count):
-    """Drawn files: samples cut, lengthened, with bytes changed or with another plan. The same at every run."""
+    """Drawn files: samples cut, lengthened, with bytes changed, with another plan or none. The same at every run."""
     draw = random.Random(7)
     small = [data for data in samples().values() if len(data) < 400]
     for _ in range(count):
@@ -78,7 +80,7 @@ def damaged(count):
 
 def damage(data, draw):
     """Damages a file once."""
-    kind, at = draw.randrange(5), draw.randrange(len(data) + 1)
+    kind, at = draw.randrange(6), draw.randrange(len(data) + 1)
     if kind == 0:
         del data[at:]
     elif kind == 1:
@@ -92,10 +94,12 @@ def damage(data, draw):
         data[start:] = bytes(code)
     elif kind == 4 and len(data) > 10:  # another mask or row count
         data[draw.randrange(2, 10)] ^= 1 << draw.randrange(8)
+    elif kind == 5 and b"PL" in data:
+        data[data.rindex(b"PL") :] = NO_PLAN
 
 
 def expected(data):
-    """The answer up to 9 by the reference, or (0, 0)."""
+    """The answer of 1 to 9 and 14 by the reference, or (0, 0)."""
     try:
         tables, code = reference.read(data)
         reference.check_plan(tables, code)

@@ -52,6 +52,16 @@ def marked(lines):
     return found[0] if found else None
 
 
+def place_of(data, number, detail):
+    """The offset that an answer's detail points at: it is one, an index in the plan, or the number of a table."""
+    if number <= 6:
+        return detail
+    tables, code = reference.read(data)
+    if number <= 9:
+        return len(data) - len(code) + detail
+    return sum(10 + 4 * table.rows * len(table.columns) for table in tables[:detail])
+
+
 class Dumping(Folder):
     def check(self, data):
         lines = dumped(data)
@@ -66,7 +76,7 @@ class Dumping(Folder):
         if number == 0:
             self.assertIsNone(marked(lines))
             return
-        at = detail if number <= 6 else len(data) - len(reference.read(data)[1]) + detail
+        at = place_of(data, number, detail)
         self.assertEqual(marked(lines), (at, number, detail))
         self.assertEqual(marked(dumped(data, everything=False)), (at, number, detail))
         self.assertIn("refused %d %d: " % (number, detail), lines[1])
@@ -132,7 +142,7 @@ class Dumping(Folder):
         )
         out, _ = self.command("dump", "--answer", "6", "126", bad)
         self.assertIn("     126  end of the file\n          ^^ answer 6", out)
-        self.fails("there is no such answer", "dump", bad, "--answer", "14", "0")
+        self.fails("there is no such answer", "dump", bad, "--answer", "15", "0")
         self.fails("none: No such file", "dump", self.at("none"))
         self.fails("Is a directory", "dump", self.folder)
         self.write("bad.names", "frame\n")
@@ -211,7 +221,7 @@ class Packing(Folder):
         frames = self.write("frames.csv", "exposure,frame\n1,10\n2,11\n")
         self.pack("--attributes", "frame,,,exposure", frames)
         words = (9, 2, 10, 11, 1, 2)  # mask, row count, columns
-        self.assertEqual(self.read("out"), b"TB" + b"".join(w.to_bytes(4, "little") for w in words) + b"PL\1\0")
+        self.assertEqual(self.read("out"), b"TB" + b"".join(w.to_bytes(4, "little") for w in words) + b"PL\0")
         self.assertEqual(
             self.read("out.names").decode(), self.digest_line("out") + "0 frame\n3 exposure\ntable 0 frames\n"
         )
@@ -320,7 +330,7 @@ class Packing(Folder):
 
     def test_plans(self):
         self.refused("plan .*at character 9: no table is called panels", "--plan", "(frames panels)", *CSVS)
-        self.refused("--plan is missing: it says how 3 tables are joined, such as '\\(frames exposures\\)'", *CSVS)
+        self.refused("plan : at character 1: the plan is empty", "--plan", "", *CSVS)
         self.refused(
             "refused 8 2: .*names frames a second time; nothing is written",
             "--plan",
@@ -594,7 +604,7 @@ class RowsOfPrints(Folder):
     def test_other_text(self):
         for pattern, text in {
             "line 1: expected rows N": "",
-            "line 1: expected rows N or refused": "refused 14 0\n",
+            "line 1: expected rows N or refused": "refused 15 0\n",
             "line 1: expected rows N or refused ?": "refused 0 0\n",
             "line 3: expected a row, found 'steps": "rows 2\n1 2 3 4\nsteps 1 1 1 1\n",
             "3 rows and then steps expected behind line 1, found 1 line": "rows 3\n1 2 3 4\n",

@@ -11,7 +11,7 @@ from pigrozd.values import values_of
 
 
 def answer_of(data):
-    """The answer up to 9 by the package's reader, or (0, 0)."""
+    """The answer of 1 to 9 and 14 by the package's reader, or (0, 0)."""
     fault = fileformat.read(data).fault
     return (fault.number, fault.detail) if fault else (0, 0)
 
@@ -28,17 +28,17 @@ class Reading(unittest.TestCase):
             answer = answer_of(data)
             self.assertEqual(answer, expected(data), data.hex())
             seen.add(answer[0])
-        self.assertEqual(seen, {0, 1, 2, 3, 4, 5, 6, 7, 8, 9})
+        self.assertEqual(seen, {0, 1, 2, 3, 4, 5, 6, 7, 8, 9, 14})
 
     def test_figures_of_the_samples(self):
-        """Scratch needed, values, keys, and the bound of demand 3, which the reference's counts keep. Scratch and
-        bound are those of the mended plan."""
+        """Scratch needed, values, keys, and the bound of demand 3, which the reference's counts keep. Scratch, keys
+        and bound are those of the plan that is followed."""
         for name, data in samples().items():
             file = fileformat.read(data)
             if file.fault:
                 continue
             with self.subTest(name):
-                tables, code = reference.read(data)
+                tables = reference.read(data)[0]
                 need = plans.words_needed(file.mended.plan, file.tables)
                 if need:
                     self.assertEqual(reference.outcome(data, need - 1, 0)[:2], (10, need))
@@ -46,8 +46,8 @@ class Reading(unittest.TestCase):
                     [file.values(t, place) for t in file.tables for place in range(len(t.attributes))],
                     [values_of(t.columns[a]) for t in tables for a in sorted(t.columns)],
                 )
-                keys = {join.index: plans.key(join, file.tables) for join in plans.joins_of(file.plan)}
-                plan = reference.parse(code)[0]
+                keys = {join.index: plans.key(join, file.tables) for join in plans.joins_of(file.mended.plan)}
+                plan = reference.parse(file.mended.code)[0]
                 self.assertEqual(
                     keys, {join[0]: reference.key_attributes(tables, join) for join in reference.joins(plan)}
                 )
@@ -64,8 +64,9 @@ class Reading(unittest.TestCase):
         """The first join that is refused is the reference's. A plan is drawn twice if it is not well-behaved."""
         for name, data in samples().items():
             number, detail = expected(data)
-            if number in (0, 9):
-                file = fileformat.read(data)
+            file = fileformat.read(data)
+            if file.plan:
+                self.assertIn(number, (0, 9))
                 drawing = Drawing(file.plan, file.tables, names.Names())
                 refused = drawing.refused
                 self.assertEqual((9, refused[0].index) if refused else (0, 0), (number, detail), name)

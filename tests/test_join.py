@@ -16,14 +16,20 @@ from pigrozd import NOT_RECORDED
 
 
 class Joining(Folder):
+    def test_without_a_plan(self):
+        self.assertEqual(self.command("join", *CSVS), (ROWS, ""))
+        self.assertEqual(self.command("join", *CSVS[::-1], "--attributes", ROWS.split("\n")[0])[0], ROWS)
+
     def test_csv_files(self):
         self.assertEqual(self.command("join", *CSVS, "--plan", SAMPLE_PLAN), (ROWS, ""))
         self.assertEqual(self.command("join", "--plan", SAMPLE_PLAN, *CSVS, "-o", "-")[0], ROWS)
         self.assertEqual(self.command("join", CSVS[0], "--plan", SAMPLE_PLAN, *CSVS[1:])[0], ROWS)
 
     def test_one_table(self):
-        self.assertEqual(self.command("join", CSVS[0])[0], "frame,exposure\n10,1\n11,2\n12,2\n13,4\n")
-        self.fails("--plan is missing: it says how 3 tables are joined", "join", *CSVS)
+        rows = "frame,exposure\n10,1\n11,2\n12,2\n13,4\n"
+        self.assertEqual(self.command("join", CSVS[0])[0], rows)
+        self.assertEqual(self.command("join", CSVS[0], "--plan", "frames")[0], rows)
+        self.fails("the plan is empty; leave it out, and one is found", "join", CSVS[0], "--plan", "")
 
     def test_packed_file(self):
         place = self.write("sample", SAMPLE)

@@ -16,7 +16,20 @@ import sys
 import unittest
 import warnings
 
-from support import SAMPLE, SAMPLE_PLAN, TOP, Folder, load, needs_numpy, needs_pandas, numpy, pandas, path
+from support import (
+    FOUND_PLAN,
+    NO_PLAN,
+    SAMPLE,
+    SAMPLE_PLAN,
+    TOP,
+    Folder,
+    load,
+    needs_numpy,
+    needs_pandas,
+    numpy,
+    pandas,
+    path,
+)
 
 import pigrozd
 from pigrozd import limits, names
@@ -84,14 +97,22 @@ class Joins(unittest.TestCase):
         self.assertEqual(result.plan, "(readings (exposures frames))")
         self.assertEqual(list(result), [ROWS[0], ROWS[0], ROWS[2], ROWS[3]])
 
-    def test_one_table_needs_no_plan(self):
+    def test_without_a_plan(self):
+        """The library finds one, and the result names it. A plan of no bytes is none."""
+        for plan in ([], [None], [b""], [bytearray()]):
+            result = pigrozd.join(NAMED, *plan)
+            self.assertEqual((list(result), result.counts), (ROWS, (7, 7, 19, 10)))
+            self.assertEqual((result.plan, result.plan_bytes), (FOUND_PLAN, b"\xff\2\xff\1\0"))
+            self.assertEqual((result.found, result.mended), (True, False))
+            self.assertEqual(pigrozd.make_file(NAMED, *plan), SAMPLE[:118] + NO_PLAN)
+        self.assertEqual(pigrozd.join(NAMED, result.plan), dataclasses.replace(result, found=False))
+        self.assertEqual(list(pigrozd.join(TABLES)), ROWS)
+
+    def test_one_table(self):
         self.assertEqual(list(pigrozd.join([{31: [5, 5, 0]}])), [(5,), (5,), (0,)])
         self.assertEqual(list(pigrozd.join({"a table": {"x": [5]}}, "a table")), [(5,)])
         self.assertEqual(pigrozd.join([{31: [5, 5, 0]}], 0).visits, 3)
-        with self.assertRaisesRegex(ValueError, "a plan is wanted, such as .*: there are 3 tables"):
-            pigrozd.join(TABLES)
-        with self.assertRaisesRegex(ValueError, "a plan is wanted"):
-            pigrozd.join([])
+        self.assertEqual(pigrozd.join([{31: [5, 5, 0]}]).visits, 3)
 
     def test_no_rows(self):
         result = pigrozd.join([{3: [], 4: []}], 0)
@@ -266,6 +287,7 @@ class Plans(unittest.TestCase):
             "no table is called frame; there are table 0, table 1 and table 2": "(frame 1)",
             "names a table 'x'; there are table 0, table 1 and table 2": (0, (1, "x")),
             "at character 4: a join has two sides": "(0 )",
+            "at character 1: the plan is empty; leave it out, and one is found": "",
         }.items():
             with self.subTest(plan=plan), self.assertRaisesRegex(ValueError, pattern.rstrip(" ?")):
                 pigrozd.join(TABLES, plan)
@@ -299,7 +321,19 @@ class Refusals(unittest.TestCase):
         self.refused(4, 42, 1, "table 1 has 4,097 rows", pigrozd.join, [FRAMES, {0: range(4097)}], (0, 1))
         self.refused(5, 224, 16, "at most 16 tables", pigrozd.join, [{0: [1]}] * 17, 0)
         self.refused(7, 2, None, "the plan ends early", pigrozd.join, TABLES, b"\xff\0")
-        self.refused(7, 0, None, "the plan ends early", pigrozd.join, TABLES, b"")
+        self.refused(7, 0, None, "no bytes, and there is no table for which one can be found", pigrozd.join, [])
+        self.refused(7, 0, None, "no bytes, and there is no table for which one can be found", pigrozd.join, {}, b"")
+        self.refused(
+            14,
+            0,
+            None,
+            "table 0, table 1 and table 2 remain, and what each of them shares is not all in one of the others: table "
+            "0 shares attribute 0 and attribute 1; table 1 shares attribute 1 and attribute 2; table 2 shares "
+            "attribute 0 and attribute 2; join two of them that share attributes first and make the result a table of "
+            "a second file, or leave one out$",
+            pigrozd.join,
+            [{0: [1], 1: [1]}, {1: [1], 2: [1]}, {0: [1], 2: [1]}],
+        )
         self.refused(8, 1, None, "leaves out table 1 and table 2", pigrozd.join, TABLES, 0)
         self.refused(8, 3, None, "names table 0 a second time", pigrozd.join, TABLES, (0, (0, 1)))
         self.refused(8, 0, None, "there are none", pigrozd.join, [], 0)
@@ -326,6 +360,8 @@ class Refusals(unittest.TestCase):
             "(centres (exposures (readings frames)))",
         )
         self.refused(8, 3, None, "leaves out readings", pigrozd.join, NAMED, ("frames", "exposures"))
+        ring = dict(NAMED, exposures={"exposure": [1], "reading": [7]}, panels={"frame": [10], "reading": [7]})
+        self.refused(14, 0, None, ": frames, exposures and panels remain, and ", pigrozd.join, ring)
         self.refused(4, 0, 0, "long has 5,000 rows", pigrozd.join, {"long": {"x": range(5000)}})
 
     def test_file(self):
@@ -333,6 +369,8 @@ class Refusals(unittest.TestCase):
         self.refused(1, 118, None, "says 5 bytes, 4 are there", pigrozd.join_file, SAMPLE[:-1])
         self.refused(2, 0, None, "at offset 0 stands 6e 6f", pigrozd.join_file, b"no such file")
         self.refused(6, 126, None, "1 byte behind it", pigrozd.join_file, SAMPLE + b"\n")
+        self.refused(6, 121, None, "1 byte behind it", pigrozd.join_file, SAMPLE[:118] + NO_PLAN + b"\n")
+        self.refused(7, 0, None, "no bytes, and there is no table", pigrozd.join_file, NO_PLAN)
 
     def test_longest_output(self):
         def pairs(m, n):
@@ -397,6 +435,7 @@ class PlanOfAResult(Folder):
     def test_as_given(self):
         result = pigrozd.join(NAMED, SAMPLE_PLAN)
         self.assertEqual((result.plan, result.plan_bytes, result.mended), (SAMPLE_PLAN, SAMPLE[-5:], False))
+        self.assertFalse(result.found)
         self.assertEqual(pigrozd.join([{"x": [5]}]).plan, "0")
         self.assertEqual(pigrozd.join({"a": {"x": [5]}}).plan, "a")
 
@@ -409,7 +448,10 @@ class PlanOfAResult(Folder):
         place = self.write("sample", SAMPLE[:-5] + b"\xff\0\xff\2\1")
         self.write("sample.names", "0 frame\n1 exposure\n2 reading\n3 kelvin\ntable 0 frames\ntable 2 all of it\n")
         result = pigrozd.join_file(place)
-        self.assertEqual((result.plan, result.mended), ('(frames (1 "all of it"))', True))
+        self.assertEqual((result.plan, result.mended, result.found), ('(frames (1 "all of it"))', True, False))
+        self.write("sample", SAMPLE[:118] + NO_PLAN)
+        result = pigrozd.join_file(place)
+        self.assertEqual((result.plan, result.mended, result.found), ('("all of it" (1 frames))', False, True))
 
     def test_names_of_any_kind(self):
         columns = [{"x": [1], "y": [2]}, {"y": [2], "z": [3]}, {"z": [3]}]
