@@ -95,11 +95,14 @@ class Damaged(Folder):
                 for place, (path, text) in enumerate(zip(CSVS, texts))
             ]
             with self.subTest(csv=self.read(files[at]), at=at):
+                self.ends("join", *files)
                 self.ends("join", *files, "--plan", SAMPLE_PLAN)
                 plan = damaged_text(SAMPLE_PLAN.encode(), draw).decode("utf-8", "surrogateescape")
                 self.ends("join", *files, "--plan=" + plan)
                 self.ends("pack", "--force", self.at("out"), *files, "--plan", SAMPLE_PLAN)
+                self.ends("pack", "--force", self.at("out"), *files)
                 self.ends("plan", SAMPLE_PLAN, "--tables", *files)
+                self.ends("plan", "--tables", *files)
             self.write("packed.names", damaged_text(draw.choice((names, by_hand)), draw))
             with self.subTest(names=self.read("packed.names")):
                 self.ends("join", self.at("packed"))

@@ -56,10 +56,12 @@ class Calls(unittest.TestCase):
         self.assertEqual("".join(text).splitlines(), load("crates", "samples", "stdout").decode().splitlines())
 
     def test_random_files(self):
-        """400 small files, whole and damaged, against the independent join. In every second one values are missing."""
+        """400 small files, whole and damaged, against the independent join. In every second one values are missing,
+        and every third has no plan."""
         chance, numbers, missing = random.Random(7), collections.Counter(), 0
         for index in range(400):
-            file = bytearray(pigrozd.make_file(*drawn_tables(chance, 0.2 * (index % 2))))
+            tables, plan = drawn_tables(chance, 0.2 * (index % 2))
+            file = bytearray(pigrozd.make_file(tables, plan if index % 3 else None))
             if chance.random() < 0.3:
                 file[chance.randrange(len(file))] = chance.choice((0, 1, 2, 255))
             scratch, output = chance.choice((1000, 40)), chance.choice((300, 12))
@@ -69,12 +71,14 @@ class Calls(unittest.TestCase):
                 self.assertEqual(self.printed(file, scratch, output).split("scratch")[0], expected)
                 fault = fileformat.read(bytes(file)).fault
                 self.assertEqual(
-                    (fault.number, fault.detail) if fault else (0, 0), (number, detail) if number <= 9 else (0, 0)
+                    (fault.number, fault.detail) if fault else (0, 0),
+                    (number, detail) if number <= 9 or number == 14 else (0, 0),
                 )
             numbers[number] += 1
             missing += number == 0 and reference.NOT_RECORDED.to_bytes(4, "little") in file
         self.assertGreater(numbers[0], 50)
-        self.assertGreater(len(numbers), 6)
+        self.assertGreater(numbers[14], 3)
+        self.assertGreater(len(numbers), 7)
         self.assertGreater(missing, 50)
 
     def test_buffers(self):

@@ -314,7 +314,8 @@ GIVEN_TABLE = re.compile("([^=/]+)=(.+)", re.DOTALL)  # a table of --tables that
 
 
 def plan(a: Arguments) -> int:
-    """Draws a plan, and the plan that the join follows in its place, or finds. The status is 1 if it is refused."""
+    """Draws a plan, and the plan that the join follows in its place; or the plan that is found. The status is 1 if it
+    is refused, or none can be found."""
     if a.tables and a.plan is not None:
         raise InputError("--plan goes with a FILE, --tables with a PLAN")
     if not a.tables and a.what is None:

@@ -37,7 +37,7 @@ class Result:
     plan: str
     plan_bytes: bytes
     mended: bool
-    found: bool
+    found: bool = False
 
     @property
     def names(self) -> Tuple[Key, ...]:
