@@ -138,10 +138,11 @@ class Finding(unittest.TestCase):
     def test_step_by_step(self):
         """What is found is what the rule says: for all masks of up to 4 tables over 3 attributes, for drawn ones."""
         seen = {0: 0, 14: 0}
-        for masks in itertools.chain(*(all_masks(3, tables) for tables in range(1, 5)), drawn_masks(1, 3000)):
-            self.assertEqual(found(masks), by_the_rule(masks), masks)
-            seen[found(masks)[0]] += len(masks) > 4
-        self.assertGreater(min(seen.values()), 500, seen)
+        for masks in itertools.chain(*(all_masks(3, tables) for tables in range(1, 5)), drawn_masks(1, 1500)):
+            answer = found(masks)
+            self.assertEqual(answer, by_the_rule(masks), masks)
+            seen[answer[0]] += len(masks) > 4
+        self.assertGreater(min(seen.values()), 300, seen)
 
     def test_what_is_found(self):
         """The plan is well-behaved, names each table once, and is left as it is, whatever rows the tables have. The
