@@ -71,7 +71,7 @@ enum pigrozd_number {
     PIGROZD_SCRATCH_SHORT = 10,    /* the scratch is too short; detail: words needed */
     PIGROZD_OUTPUT_SHORT = 11,     /* more results than the output fits; detail: number of results, or PIGROZD_HOLD_LIMIT */
     PIGROZD_COUNTS_DIFFER = 12,    /* two counts of the results differ; never given, which is proved; detail: 0 */
-    PIGROZD_NO_PLAN_FOUND = 14     /* no plan can be found for these tables; detail: lowest table number remaining */
+    PIGROZD_NO_PLAN_FOUND = 14     /* no plan can be found for these tables; detail: lowest number of a table that remains */
 };
 
 /* The name that 9 had before plans were mended; a plan that is not well-behaved is no longer refused for that. */

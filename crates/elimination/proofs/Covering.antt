@@ -19,7 +19,7 @@ use Rattle.semantics.proofs.Lists.{any-append, filter-append, any-each, Each-ma
 use Rattle.semantics.proofs.Numbers.{filter-last, from-lt}
 use Rattle.words.proofs.Masks.{hasBit-and, hasBit-or, covers}
 use Rattle.words.specs.Masks.{Masked}
-use Rattle.semantics.specs.Elimination.{without, sharedAttributes, parentOf, nextOf}
+use Rattle.semantics.specs.Elimination.{without, sharedIn, sharedAttributes, parentOf, nextOf}
 use Rattle.elimination.specs.Parents.{remaining, OthersHave, firstCovering, parentFound, Gathered, Uncovered}
 use Rattle.elimination.specs.Steps.{nextFound, Unhung}
 use Rattle.elimination.specs.declared.parents.Parent.{Parent}
@@ -119,11 +119,11 @@ first-each p q (x ∷ xs) e = cases (q x) (λ h. rw (e .0, h, first)) (λ h. rw 
 -- the test of masks is the test of shared attributes
 pub parent-test : (masks : List ℕ) (flags : List Bool) (n t have : ℕ) (S : Shape) → Masked masks S → n ≤ 16 → t < 16 → OthersHave masks (remaining n flags) t have
     → parentFound (firstCovering masks (remaining n flags) t (bitAnd (getD masks t 0) have)) ≡ parentFound (parentOf S (remaining n flags) t)
-unfolding parentOf sharedAttributes
+unfolding parentOf sharedAttributes sharedIn
 parent-test masks flags n t have S M few h o =
     let rs = remaining n flags in
     let m = bitAnd (getD masks t 0) have in
-    let ks = filter (λ a. S .has t a && any (λ u. S .has u a) (without t rs)) attributes in
+    let ks = sharedAttributes S rs t in
     let below : Each (λ u. u < 16) (without t rs)
     = unfold without in Each-filter (λ u. u < 16) (λ u. not (eqb u t)) rs (Each-filter (λ u. u < 16) (λ t. getD flags t false) (from 0 n) (Each-map (λ y. (0 ≤ y) × (y < 0 + n)) (λ u. u < 16) (λ y l. omega arith) (from 0 n) (from-lt 0 n))) in
     let bits : (a : ℕ) → hasBit m a ≡ (S .has t a && any (λ u. S .has u a) (without t rs))

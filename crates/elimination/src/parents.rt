@@ -41,16 +41,16 @@ fn first_covering(
     requires { ⌜ count ≤ 16 ⌝ }
     ensures { λ r. ⌜ r ≡ parentFound (firstCovering (now (masks .entry)) (remaining count (now (rest .entry))) t shared) ⌝ }
 {
-    let mut u = 0;
-    while u < count {
-        if rest[u] {
-            if u != t {
-                if shared & masks[u] == shared {
-                    return Parent::Under(u);
+    let mut c = 0;
+    while c < count {
+        if rest[c] {
+            if c != t {
+                if shared & masks[c] == shared {
+                    return Parent::Under(c);
                 }
             }
         }
-        u += 1;
+        c += 1;
     }
     Parent::Nowhere
 }

@@ -15,7 +15,7 @@ use Rattle.semantics.proofs.Lists.{sum-one}
 use Rattle.semantics.proofs.Numbers.{rising-filter}
 use Rattle.semantics.proofs.JoinTrees.{named-any}
 use Rattle.semantics.specs.Details.{Ear}
-use Rattle.semantics.specs.Elimination.{Hanging, without, sharedAttributes, parentOf, nextOf}
+use Rattle.semantics.specs.Elimination.{Hanging, without, sharedIn, sharedAttributes, parentOf, nextOf}
 use Rattle.semantics.proofs.TableSets.{decide, in-minus, out-minus, member-without, member-each}
 use Rattle.semantics.proofs.Attributes.{each-attribute, attribute-each}
 
@@ -76,29 +76,29 @@ unfolding without
 rising-without t rs r = rising-filter (λ u. not (eqb u t)) rs r
 
 module _ (S : Shape) where
+  -- ---- what t shares with other remaining tables
+  shared-of : (rs : List ℕ) (t u a : ℕ) → S .has t a ≡ true → member rs u ≡ true → (u ≡ t → ⊥) → S .has u a ≡ true → sharedIn S rs t a ≡ true
+  unfolding sharedIn
+  shared-of rs t u a h m d k = rw h (named-any (λ u. S .has u a) u (without t rs) (in-without t u rs d m) k)
+
+  shared-with : (rs : List ℕ) (t a : ℕ) → sharedIn S rs t a ≡ true → (S .has t a ≡ true) × ((u : ℕ) × (member rs u ≡ true) × (u ≡ t → ⊥) × (S .has u a ≡ true))
+  unfolding sharedIn
+  shared-with rs t a e =
+      let (u, m, k) = any-find (λ u. S .has u a) (without t rs) (and-right (S .has t a) (any (λ u. S .has u a) (without t rs)) e) in
+      let (d, j) = out-without t u rs m in
+      (and-left (S .has t a) (any (λ u. S .has u a) (without t rs)) e, (u, j, d, k))
+
+  -- its parent is an other remaining table that has all of it
   parent-ear : (rs : List ℕ) (t f : ℕ) → member rs t ≡ true → parentOf S rs t ≡ some f → Ear S (member rs) t f
   unfolding parentOf sharedAttributes
   parent-ear rs t f m e =
       let (i, k) = first-some (λ u. all (S .has u) (sharedAttributes S rs t)) (without t rs) f e in
       let (d, j) = out-without t f rs i in
-      record {
-        inside = m;
-        parent = j;
-        apart = d;
-        covers = λ a u l h mu c g.
-            each-attribute (λ a. S .has t a && any (λ u. S .has u a) (without t rs)) (S .has f) k a l
-            (rw h (named-any (λ u. S .has u a) u (without t rs) (in-without t u rs c mu) g));
-      }
+      record { inside = m; parent = j; apart = d; covers = λ a u l h mu c g. each-attribute (sharedIn S rs t) (S .has f) k a l (shared-of rs t u a h mu c g) }
 
-  -- where t can hang, its parent has all that it shares
   ear-covers : (rs : List ℕ) (t f : ℕ) → Ear S (member rs) t f → all (S .has f) (sharedAttributes S rs t) ≡ true
   unfolding sharedAttributes
-  ear-covers rs t f E =
-      attribute-each (λ a. S .has t a && any (λ u. S .has u a) (without t rs)) (S .has f)
-      (λ a l h.
-      let (u, m, k) = any-find (λ u. S .has u a) (without t rs) (and-right (S .has t a) (any (λ u. S .has u a) (without t rs)) h) in
-      let (d, j) = out-without t u rs m in
-      E .covers a u l (and-left (S .has t a) (any (λ u. S .has u a) (without t rs)) h) j d k)
+  ear-covers rs t f E = attribute-each (sharedIn S rs t) (S .has f) (λ a l h. let (x, (u, m, d, k)) = shared-with rs t a h in E .covers a u l x m d k)
 
   no-parent : (rs : List ℕ) (t f : ℕ) → parentOf S rs t ≡ none → Ear S (member rs) t f → ⊥
   unfolding parentOf

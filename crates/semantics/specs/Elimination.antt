@@ -1,5 +1,5 @@
 -- Request U4, "files without a plan": the plan that is found for tables whose file gives none. Nothing here can see an attribute value.
-use mathlib.Core.Bool.{true, false, _&&_, not}
+use mathlib.Core.Bool.{Bool, true, false, _&&_, not}
 use mathlib.Core.List.{List, [], _∷_}
 use mathlib.Core.Option.{Option, none, some}
 use Prim.Native.Nat.{ℕ, zero, suc, _-_}
@@ -30,9 +30,13 @@ unfoldable pub lowest : List ℕ → ℕ
 lowest rs = headOf rs
 
 module _ (S : Shape) where
-  -- "shared attributes (those some other remaining table has)", rs remaining
+  -- the table t has the attribute, and "some other remaining table has" it, rs remaining
+  unfoldable pub sharedIn : List ℕ → ℕ → ℕ → Bool
+  sharedIn rs t a = S .has t a && any (λ u. S .has u a) (without t rs)
+
+  -- its "shared attributes", rising
   unfoldable pub sharedAttributes : List ℕ → ℕ → List ℕ
-  sharedAttributes rs t = filter (λ a. S .has t a && any (λ u. S .has u a) (without t rs)) attributes
+  sharedAttributes rs t = filter (sharedIn rs t) attributes
 
   -- they "all lie in one other remaining table": "the lowest-numbered such table"
   unfoldable pub parentOf : List ℕ → ℕ → Option ℕ

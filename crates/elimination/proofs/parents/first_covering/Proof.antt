@@ -11,10 +11,10 @@ use Rattle.elimination.proofs.parents.first_covering.Reads as reads
 use Rattle.elimination.proofs.parents.first_covering.Lts as lts
 
 abbrev Inv-loop : tie.InvT-loop
-Inv-loop masks rest count t shared u₀ u = Uncovered masks rest count t shared u
+Inv-loop masks rest count t shared x₀ x = Uncovered masks rest count t shared x
 
 abbrev μ-loop : tie.MeasureT-loop
-μ-loop masks rest count t shared u₀ u = count - u
+μ-loop masks rest count t shared x₀ x = count - x
 
 loop-holds : tie.Need-loop-holds Inv-loop μ-loop
 loop-holds c = uncovered-begun
@@ -32,8 +32,8 @@ returns : tie.Need-returns Inv-loop μ-loop
 returns c =
     sym (covered-here (c .before .before .before .before .before .before .loop .inv) (c .before .before .before .before .before .loop-test .taken) (c .before .before .before .if1 .taken) (c .before .before .if2 .taken) (c .if3 .taken))
 
-add-u : tie.Need-add-u Inv-loop μ-loop
-add-u c = search needs
+add-c : tie.Need-add-c Inv-loop μ-loop
+add-c c = search needs
 
 loop-less : tie.Need-loop-less Inv-loop μ-loop
 loop-less c = search needs
@@ -59,7 +59,7 @@ first-covering-spec =
     mul-if3
     element-copy-out-if3
     returns
-    add-u
+    add-c
     loop-less
     loop-again
     returns-2)
