@@ -61,9 +61,9 @@ check-c: lib target/bin/pigrozd
 	MAKE='$(MAKE)' CC='$(CC)' sh tests/test_install.sh
 	sh tests/test_pages.sh
 
-# The Python package: the library through it, the totals that it forms and their multiplications, the reference's mending and the
-# package's, tables and values, those that were not recorded, the file format, pip. Then its commands. What needs NumPy or pandas
-# is skipped, in words, where they are not there; make check-users PYTHON=/usr/bin/python3 names another.
+# The Python package: the library through it, the totals that it forms and their multiplications, plans mended and found by the
+# reference and by the package, tables and values, those that were not recorded, the file format, pip. Then its commands. What needs
+# NumPy or pandas is skipped, in words, where they are not there; make check-users PYTHON=/usr/bin/python3 names another.
 PYTHON = python3
 
 check-python: lib

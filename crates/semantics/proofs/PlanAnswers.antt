@@ -4,20 +4,26 @@ use mathlib.Core.Path.{_≡_, refl, sym, ap, _∙_}
 use mathlib.Core.Bool.{true, false}
 use mathlib.Core.List.{List, [], _∷_}
 use mathlib.Core.Logic.{_↔_}
-use Prim.Native.Nat.{ℕ, _≤_, _<_}
+use Prim.Native.Nat.{ℕ, _+_, _≤_, _<_}
 use native.Mathlib.Omega.{arith}
 use lib.ListN.{length}
+use lib.Dec.{eqb}
+use Rattle.semantics.specs.Lists.{oneIf}
 use Rattle.semantics.specs.Files.{Table, fault, planBytes, read}
-use Rattle.semantics.specs.Plans.{Plan, scan, join, encode, tables}
+use Rattle.semantics.specs.Plans.{Plan, scan, join, encode, tables, leftmost}
 use Rattle.semantics.specs.Shapes.{shapeOf}
 use Rattle.semantics.specs.Mending.{mend, Mendable}
 use Rattle.semantics.specs.Elimination.{Hanging, rooted, stuck, eliminate, planUnder}
 use Rattle.semantics.specs.Details.{SpellsPlan, FirstMisplaced, NamedOnce, FirstMisnamed, FirstLacking, WithoutPlan, NoneHangs, NoPlan, FoundPlan, Followed, mended, found, ReadsPlan}
 use Rattle.semantics.specs.Outcome.{Verdict, refused, admitted, sentVerdict, foundVerdict, asksForPlan, planVerdict, readVerdict, rulesVerdict}
 use Rattle.semantics.proofs.Cases.{cases, true-false}
+use Rattle.semantics.proofs.Lists.{length-filter-sum}
+use Rattle.semantics.proofs.Mending.{mend-sum, mend-each, mend-wellBehaved}
 use Rattle.semantics.proofs.Reading.{ending-cases, fault-number}
 use Rattle.semantics.proofs.FoundPlans.{elimination-cases, sums-named, rooted-plan, stuck-none}
 use Rattle.semantics.proofs.Eliminating.{stuck-exactly, rooted-exactly}
+use Rattle.semantics.proofs.Forests.{planUnder-leftmost}
+use Rattle.semantics.proofs.LastRoots.{root-last}
 use Rattle.semantics.proofs.Rules.{plan-sent, plan-found}
 use Rattle.semantics.proofs.SentAnswers.{sent-seven, sent-eight, sent-nine, sent-within, sent-other}
 
@@ -135,6 +141,26 @@ module _ (ts : List Table) (code : List ℕ) where
       back (mended s o m z) = plan-cases (λ w q. absurd (spells-plan ts code s w)) (λ w q. q ∙ (sent-within ts code p) .1 (s, o, m, z))
       back (found w x) =
           asked w ∙ found-plan ((rooted-exactly (shapeOf ts) (length ts) (x .root) (x .hung) (w .present)) .1 (x .remains)) ∙ ap (admitted ts) (x .is)
+
+-- ---- what follows for users
+-- the plan that is found names the last table first
+pub found-last : (ts : List Table) (code : List ℕ) (p : Plan) → Followed ts code p → WithoutPlan ts code → leftmost p + 1 ≡ length ts
+found-last ts code p (mended s o m z) w = absurd (spells-plan ts code s w)
+found-last ts code p (found v x) w =
+    let e = (rooted-exactly (shapeOf ts) (length ts) (x .root) (x .hung) (w .present)) .1 (x .remains) in
+    omega (arith, root-last (shapeOf ts) (length ts) (x .root) (x .hung) (w .present) e, ap leftmost (x .is), planUnder-leftmost (x .hung) (x .root))
+
+-- where no plan is found, none that is sent can be mended: each that names the tables once is a 9
+pub no-plan-unmendable : (ts : List Table) → NoPlan ts → (q : Plan) → NamedOnce (length ts) (tables q) → Mendable (shapeOf ts) q → ⊥
+no-plan-unmendable ts f q o m =
+    let S = shapeOf ts in
+    let named : NamedOnce (length ts) (tables (mend S q))
+    = record {
+      present = mend-each S (λ t. t < length ts) q (o .present);
+      once = λ t h.
+          length-filter-sum (eqb t) (tables (mend S q)) ∙ mend-sum S (λ x. oneIf (eqb t x)) q ∙ sym (length-filter-sum (eqb t) (tables q)) ∙ o .once t h;
+    } in
+    f (mend S q) named (mend-wellBehaved S q m)
 
 -- ---- of a file: past 6, the bytes of its plan decide
 module _ (bytes : List ℕ) where
