@@ -24,7 +24,7 @@ use Rattle.elimination.specs.declared.steps.Hung.{Hung}
 use Rattle.elimination.specs.declared.steps.Next.{Next}
 use Rattle.elimination.specs.declared.steps.Next.the-variants as next
 use Rattle.elimination.specs.Parents.{remaining}
-use Rattle.elimination.specs.Steps.{nextFound, Shaped, ParentsOf, HungAs, Gone, Hanged}
+use Rattle.elimination.specs.Steps.{nextFound, Shaped, ParentsOf, HungAs, Gone, HungSoFar}
 use Rattle.elimination.proofs.Covering.{from-next, from-none}
 
 -- ---- the lowest table that remains
@@ -50,9 +50,9 @@ all-remain n few =
     (Each-map (λ y. (0 ≤ y) × (y < 0 + n)) (λ t. getD (replicate 16 true) t false ≡ true) (λ t l. getD-replicate 16 t true false (omega arith)) (from 0 n) (from-lt 0 n))
     ∙ filter-true (from 0 n)
 
-pub hanged-begun : {masks : List ℕ} {n : ℕ} → 0 < n → n ≤ 16 → Hanged masks n (replicate 16 true) (replicate 16 16) (n - 1)
+pub so-far-begun : {masks : List ℕ} {n : ℕ} → 0 < n → n ≤ 16 → HungSoFar masks n (replicate 16 true) (replicate 16 16) (n - 1)
 unfolding eliminate upTo
-hanged-begun {masks} {n} pos few =
+so-far-begun {masks} {n} pos few =
     let all = all-remain n few in
     record {
       hung = [];
@@ -94,7 +94,7 @@ remaining-without n c flags h =
 eqb-sym : (x y : ℕ) → eqb x y ≡ eqb y x
 eqb-sym x y = decide x y (λ e. eq-eqb x y e ∙ sym (eq-eqb y x (sym e))) (λ d. ne-eqb x y d ∙ sym (ne-eqb y x (λ e. d (sym e))))
 
-module _ {masks : List ℕ} {n : ℕ} {flags : List Bool} {parents : List ℕ} {m : ℕ} (g : Hanged masks n flags parents m) (few : n ≤ 16) (w : Shaped masks)
+module _ {masks : List ℕ} {n : ℕ} {flags : List Bool} {parents : List ℕ} {m : ℕ} (g : HungSoFar masks n flags parents m) (few : n ≤ 16) (w : Shaped masks)
     (r : Next) (is : (S : Shape) → Masked masks S → r ≡ nextFound (nextOf S (remaining n flags) (remaining n flags))) where
   module _ (c p : ℕ) (e : r ≡ next.Hang c p) where
     hung-next : (S : Shape) → Masked masks S → nextOf S (remaining n flags) (remaining n flags) ≡ some (record { child = c; parent = p })
@@ -109,8 +109,8 @@ module _ {masks : List ℕ} {n : ℕ} {flags : List Bool} {parents : List ℕ} {
         let b = member-each (λ t. (t < n) × (getD flags t false ≡ true)) (remaining n flags) p (remaining-below n flags) (ear .parent) in
         omega (arith, a .0, b .0)
 
-    pub hanged-more : 0 < m → Hanged masks n (set flags c false) (set parents c p) (m - 1)
-    hanged-more pos =
+    pub so-far-more : 0 < m → HungSoFar masks n (set flags c false) (set parents c p) (m - 1)
+    so-far-more pos =
         let h : Hanging = record { child = c; parent = p } in
         let (lc, lp) = child-below in
         let (below, up) = member-each (λ t. (t < n) × (getD flags t false ≡ true)) (remaining n flags) c (remaining-below n flags) (ear .inside) in
@@ -132,14 +132,14 @@ module _ {masks : List ℕ} {n : ℕ} {flags : List Bool} {parents : List ℕ} {
               g .ahead S M ∙ ap (λ k. hangAll S k (remaining n flags) (g .hung)) (sym one) ∙ step ∙ ap (λ l. hangAll S (m - 1) l (h ∷ g .hung)) (sym rest);
         }
 
-  pub hanged-stuck : r ≡ next.Nothing → 0 < m → (h : Hung) → h .stuck ≡ true → h .table ≡ lowest (remaining n flags) → (S : Shape) → Masked masks S → HungAs h (eliminate S n)
-  hanged-stuck e pos h a b S M =
+  pub so-far-stuck : r ≡ next.Nothing → 0 < m → (h : Hung) → h .stuck ≡ true → h .table ≡ lowest (remaining n flags) → (S : Shape) → Masked masks S → HungAs h (eliminate S n)
+  so-far-stuck e pos h a b S M =
       let one : suc (m - 1) ≡ m = omega arith in
       let step : hangAll S (suc (m - 1)) (remaining n flags) (g .hung) ≡ stuck (lowest (remaining n flags)) = rw (next-nothing (nextOf S (remaining n flags) (remaining n flags)) (sym e ∙ is S M), hangAll) in
       subst (HungAs h) (sym (g .ahead S M ∙ ap (λ k. hangAll S k (remaining n flags) (g .hung)) (sym one) ∙ step)) (a, b)
 
-pub hanged-rooted : {masks : List ℕ} {n : ℕ} {flags : List Bool} {parents : List ℕ} {m : ℕ} → Hanged masks n flags parents m → m ≤ 0
+pub so-far-rooted : {masks : List ℕ} {n : ℕ} {flags : List Bool} {parents : List ℕ} {m : ℕ} → HungSoFar masks n flags parents m → m ≤ 0
     → (h : Hung) → h .stuck ≡ false → h .table ≡ lowest (remaining n flags) → h .parents ≡ parents → (S : Shape) → Masked masks S → HungAs h (eliminate S n)
-hanged-rooted {masks} {n} {flags} {parents} {m} g z h a b c S M =
+so-far-rooted {masks} {n} {flags} {parents} {m} g z h a b c S M =
     let e : m ≡ 0 = omega arith in
     subst (HungAs h) (sym (g .ahead S M ∙ ap (λ k. hangAll S k (remaining n flags) (g .hung)) e)) (a, b, subst (λ x. ParentsOf x (g .hung)) (sym c) (g .named))

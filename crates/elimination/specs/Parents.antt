@@ -9,7 +9,9 @@ use lib.Dec.{eqb}
 use lib.Bits.{bitAnd}
 use Rattle.semantics.specs.Lists.{any, filter, first, from}
 use Rattle.semantics.specs.Files.{hasBit}
-use Rattle.semantics.specs.Elimination.{without}
+use Rattle.semantics.specs.Shapes.{Shape}
+use Rattle.semantics.specs.Elimination.{without, parentOf}
+use Rattle.words.specs.Masks.{Masked}
 use Rattle.elimination.specs.declared.parents.Parent.{Parent}
 use Rattle.elimination.specs.declared.parents.Parent.the-variants as parent
 
@@ -28,6 +30,10 @@ firstCovering masks rs t m = first (λ u. eqb (bitAnd m (getD masks u 0)) m) (wi
 abbrev pub parentFound : Option ℕ → Parent
 parentFound none = parent.Nowhere
 parentFound (some u) = parent.Under u
+
+-- r is the parent of t, whatever tables have these masks
+abbrev pub ParentIn : List ℕ → List ℕ → ℕ → Parent → Type 0
+ParentIn masks rs t r = (S : Shape) → Masked masks S → r ≡ parentFound (parentOf S rs t)
 
 -- ---- what the searches keep
 -- the attributes of the remaining tables below u, but t, are gathered

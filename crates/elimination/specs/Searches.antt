@@ -4,7 +4,9 @@ use mathlib.Core.List.{List}
 use Prim.Native.Nat.{ℕ, _≤_}
 use lib.ListN.{length, take}
 use Rattle.semantics.specs.Plans.{encode}
-use Rattle.semantics.specs.Elimination.{Elimination, rooted, stuck, planUnder}
+use Rattle.semantics.specs.Shapes.{Shape}
+use Rattle.semantics.specs.Elimination.{Elimination, rooted, stuck, eliminate, planUnder}
+use Rattle.words.specs.Masks.{Masked}
 use Rattle.elimination.specs.declared.Search.{Search}
 use Rattle.elimination.specs.declared.Search.the-variants as search
 
@@ -13,3 +15,7 @@ use Rattle.elimination.specs.declared.Search.the-variants as search
 abbrev pub SearchIs : Elimination → Search → List ℕ → List ℕ → Type 0
 SearchIs (rooted t hs) r before out = (n : ℕ) × (r ≡ search.Plan n) × (n ≤ 31) × (length out ≡ 31) × (take n out ≡ encode (planUnder hs t))
 SearchIs (stuck d) r before out = (r ≡ search.Stuck d) × (out ≡ before)
+
+-- so it is of the tables 0 to n - 1, whatever tables have these masks
+abbrev pub Searched : List ℕ → ℕ → List ℕ → List ℕ → Search → Type 0
+Searched masks n before out r = (S : Shape) → Masked masks S → SearchIs (eliminate S n) r before out

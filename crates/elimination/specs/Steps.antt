@@ -15,14 +15,23 @@ use Rattle.elimination.specs.declared.steps.Hung.{Hung}
 use Rattle.elimination.specs.declared.steps.Next.{Next}
 use Rattle.elimination.specs.declared.steps.Next.the-variants as next
 
+-- the code's word for what hangs next
 abbrev pub nextFound : Option Hanging → Next
 nextFound none = next.Nothing
 nextFound (some h) = next.Hang (h .child) (h .parent)
 
+-- r is what hangs next, whatever tables have these masks
+abbrev pub NextIn : List ℕ → List ℕ → Next → Type 0
+NextIn masks rs r = (S : Shape) → Masked masks S → r ≡ nextFound (nextOf S rs rs)
+
+-- the remaining tables from t on
+abbrev pub remainingFrom : ℕ → ℕ → List Bool → List ℕ
+remainingFrom t n flags = filter (λ v. getD flags v false) (from t (n - t))
+
 -- none of the remaining tables below t can be hung
 pub record Unhung (masks : List ℕ) (flags : List Bool) (n t : ℕ) : Type 0 where
   pub within : t ≤ n
-  pub ahead : (S : Shape) → Masked masks S → nextOf S (remaining n flags) (remaining n flags) ≡ nextOf S (remaining n flags) (filter (λ v. getD flags v false) (from t (n - t)))
+  pub ahead : (S : Shape) → Masked masks S → let rs = remaining n flags in nextOf S rs rs ≡ nextOf S rs (remainingFrom t n flags)
 
 -- ---- the whole
 -- the masks are those of the tables of some shape
@@ -43,13 +52,17 @@ abbrev pub HungAs : Hung → Elimination → Type 0
 HungAs r (rooted t hs) = (r .stuck ≡ false) × (r .table ≡ t) × ParentsOf (r .parents) hs
 HungAs r (stuck d) = (r .stuck ≡ true) × (r .table ≡ d)
 
+-- so it is of the tables 0 to n - 1, whatever tables have these masks
+abbrev pub HungAll : List ℕ → ℕ → Hung → Type 0
+HungAll masks n r = (S : Shape) → Masked masks S → HungAs r (eliminate S n)
+
 -- no table below t remains
 pub record Gone (flags : List Bool) (n t : ℕ) : Type 0 where
   pub within : t ≤ n
-  pub ahead : lowest (remaining n flags) ≡ lowest (filter (λ v. getD flags v false) (from t (n - t)))
+  pub ahead : lowest (remaining n flags) ≡ lowest (remainingFrom t n flags)
 
--- m tables are still to hang
-pub record Hanged (masks : List ℕ) (n : ℕ) (flags : List Bool) (parents : List ℕ) (m : ℕ) : Type 0 where
+-- m tables are still to hang; the flags are those of the tables that remain
+pub record HungSoFar (masks : List ℕ) (n : ℕ) (flags : List Bool) (parents : List ℕ) (m : ℕ) : Type 0 where
   pub hung : List Hanging
   pub sizes : (length flags ≡ 16) × (length parents ≡ 16)
   pub long : length (remaining n flags) ≡ suc m

@@ -18,7 +18,8 @@ isHung (h ∷ hs) c = eqb c (h .child) || isHung hs c
 -- each of the tables below n is hung once at most, and under one that is not yet hung
 abbrev pub HungOnce : ℕ → List Hanging → Type 0
 HungOnce n [] = Unit {0}
-HungOnce n (h ∷ hs) = (h .child < n) × (isHung hs (h .child) ≡ false) × (isHung hs (h .parent) ≡ false) × (h .parent ≡ h .child → ⊥) × HungOnce n hs
+HungOnce n (h ∷ hs) =
+    (h .child < n) × (isHung hs (h .child) ≡ false) × (isHung hs (h .parent) ≡ false) × (h .parent ≡ h .child → ⊥) × HungOnce n hs
 
 -- how many of the tables below n hang under t
 abbrev pub childCount : List ℕ → ℕ → ℕ → ℕ
@@ -42,7 +43,8 @@ pub record Writable (parents : List ℕ) (n t at : ℕ) : Type 0 where
 
 -- the plan of t is written
 abbrev pub PlanWrote : List ℕ → ℕ → ℕ → List ℕ → ℕ → List ℕ → ℕ → Type 0
-PlanWrote parents n t old at code next = (hs : List Hanging) → HungOnce n hs → ParentsOf parents hs → Wrote old at (encode (planUnder hs t)) code next
+PlanWrote parents n t old at code next =
+    (hs : List Hanging) → HungOnce n hs → ParentsOf parents hs → Wrote old at (encode (planUnder hs t)) code next
 
 -- an FF is written for each child below c
 pub record Joining (parents : List ℕ) (n t : ℕ) (old : List ℕ) (at : ℕ) (code : List ℕ) (next c : ℕ) : Type 0 where
@@ -51,7 +53,8 @@ pub record Joining (parents : List ℕ) (n t : ℕ) (old : List ℕ) (at : ℕ) 
 
 -- the joins, the table, and the plans of the children below c
 abbrev pub plansBelow : List ℕ → ℕ → ℕ → List Hanging → ℕ → List ℕ
-plansBelow parents n t hs c = replicate (childCount parents t n) 255 ++ (t ∷ concatMap (λ x. onlyIf (hungUnder hs t x) (encode (planUnder hs x))) (from 0 c))
+plansBelow parents n t hs c =
+    replicate (childCount parents t n) 255 ++ (t ∷ concatMap (λ x. onlyIf (hungUnder hs t x) (encode (planUnder hs x))) (from 0 c))
 
 pub record Planning (parents : List ℕ) (n t : ℕ) (old : List ℕ) (at : ℕ) (code : List ℕ) (next c : ℕ) : Type 0 where
   pub within : c ≤ n

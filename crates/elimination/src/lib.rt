@@ -7,24 +7,22 @@ mod writing;
 ghost use mathlib.Core.Path.{_≡_};
 ghost use Prim.Native.Nat.{_<_, _≤_};
 ghost use lib.ListN.{length};
-ghost use Rattle.semantics.specs.Shapes.{Shape};
-ghost use Rattle.semantics.specs.Elimination.{eliminate};
-ghost use Rattle.words.specs.Masks.{Masked};
 ghost use Rattle.elimination.specs.Steps.{Shaped};
-ghost use Rattle.elimination.specs.Searches.{SearchIs};
+ghost use Rattle.elimination.specs.Searches.{Searched};
 use crate::steps::hang_all;
 use crate::writing::write_plan;
 
-// The plan that is found for tables with these masks, by its length: its bytes stand at the front of the lent ones. Or the
-// lowest-numbered table that remains where none can be hung.
+// What a search ends with: the length of the plan, whose bytes stand at the front of the lent ones; or the lowest-numbered table that
+// remains where none can be hung.
 pub enum Search {
     Plan(usize),
     Stuck(usize),
 }
 
+// The plan that is found for that many tables with these masks. Where none is, the lent bytes are as they were.
 pub fn find_plan(masks: &[u32; 16], count: usize, out: &mut [u8; 31]) -> Search
     requires { ⌜ Shaped (now masks) × (0 < count) × (count ≤ 16) × (length (now out) ≡ 31) ⌝ }
-    ensures { λ r. ⌜ ((S : Shape) → Masked (now (masks .entry)) S → SearchIs (eliminate S count) r (now (out .entry)) (now (out .exit))) ⌝ }
+    ensures { λ r. ⌜ Searched (now (masks .entry)) count (now (out .entry)) (now (out .exit)) r ⌝ }
 {
     let hung = hang_all(masks, count);
     let table = hung.table;

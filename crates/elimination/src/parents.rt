@@ -1,10 +1,7 @@
 // The table under which one hangs: the lowest-numbered other remaining one that has all attributes it shares with them.
 ghost use mathlib.Core.Path.{_≡_};
 ghost use Prim.Native.Nat.{_<_, _≤_};
-ghost use Rattle.semantics.specs.Shapes.{Shape};
-ghost use Rattle.semantics.specs.Elimination.{parentOf};
-ghost use Rattle.words.specs.Masks.{Masked};
-ghost use Rattle.elimination.specs.Parents.{remaining, OthersHave, firstCovering, parentFound};
+ghost use Rattle.elimination.specs.Parents.{remaining, OthersHave, firstCovering, parentFound, ParentIn};
 
 // The table under which one hangs, where there is one.
 pub enum Parent {
@@ -58,7 +55,7 @@ fn first_covering(
 // The table under which t hangs.
 pub(crate) fn parent_of(masks: &[u32; 16], rest: &[bool; 16], count: usize, t: usize) -> Parent
     requires { ⌜ (count ≤ 16) × (t < 16) ⌝ }
-    ensures { λ r. ⌜ ((S : Shape) → Masked (now (masks .entry)) S → r ≡ parentFound (parentOf S (remaining count (now (rest .entry))) t)) ⌝ }
+    ensures { λ r. ⌜ ParentIn (now (masks .entry)) (remaining count (now (rest .entry))) t r ⌝ }
 {
     let have = others(masks, rest, count, t);
     let shared = masks[t] & have;

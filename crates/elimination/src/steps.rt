@@ -1,11 +1,9 @@
 // The repeated step: the lowest-numbered table that can be hung is hung, until one is left or none can be.
 ghost use mathlib.Core.Path.{_≡_};
 ghost use Prim.Native.Nat.{_<_, _≤_};
-ghost use Rattle.semantics.specs.Shapes.{Shape};
-ghost use Rattle.semantics.specs.Elimination.{lowest, nextOf, eliminate};
-ghost use Rattle.words.specs.Masks.{Masked};
+ghost use Rattle.semantics.specs.Elimination.{lowest};
 ghost use Rattle.elimination.specs.Parents.{remaining};
-ghost use Rattle.elimination.specs.Steps.{nextFound, Shaped, HungAs};
+ghost use Rattle.elimination.specs.Steps.{NextIn, Shaped, HungAll};
 use crate::parents::Parent;
 use crate::parents::parent_of;
 
@@ -18,7 +16,7 @@ pub enum Next {
 // The lowest-numbered remaining table that can be hung.
 fn next_hanging(masks: &[u32; 16], rest: &[bool; 16], count: usize) -> Next
     requires { ⌜ count ≤ 16 ⌝ }
-    ensures { λ r. ⌜ ((S : Shape) → Masked (now (masks .entry)) S → r ≡ nextFound (nextOf S (remaining count (now (rest .entry))) (remaining count (now (rest .entry))))) ⌝ }
+    ensures { λ r. ⌜ NextIn (now (masks .entry)) (remaining count (now (rest .entry))) r ⌝ }
 {
     let mut t = 0;
     while t < count {
@@ -59,7 +57,7 @@ fn lowest_remaining(rest: &[bool; 16], count: usize) -> usize
 // All tables but one hung, as far as they can be.
 pub(crate) fn hang_all(masks: &[u32; 16], count: usize) -> Hung
     requires { ⌜ Shaped (now masks) × (0 < count) × (count ≤ 16) ⌝ }
-    ensures { λ r. ⌜ ((S : Shape) → Masked (now (masks .entry)) S → HungAs r (eliminate S count)) ⌝ }
+    ensures { λ r. ⌜ HungAll (now (masks .entry)) count r ⌝ }
 {
     let mut rest = [true; 16];
     let mut parents = [16usize; 16];

@@ -1,12 +1,9 @@
 // The plan that the join follows where it is not the one sent: the one sent, mended, or the one found where none was sent; answers 9 and
 // 14.
 ghost use mathlib.Core.Path.{_≡_};
-ghost use mathlib.Core.List.{List, []};
-ghost use Prim.Native.Nat.{_<_};
 ghost use lib.ListN.{length};
-ghost use Rattle.semantics.specs.Files.{Table};
-ghost use Rattle.plans.specs.Admissions.{Tabled, Named, NamedFor, Formable};
-ghost use Rattle.plans.specs.Forming.{FormableFor, PlanlessFor, FormedAs};
+ghost use Rattle.plans.specs.Admissions.{NamedFor};
+ghost use Rattle.plans.specs.Forming.{FormableFor, PlanlessFor, MendedFor, FoundFor, FormedFor};
 use elimination::Search;
 use mending::Found;
 use tables::Catalog;
@@ -20,7 +17,7 @@ pub enum Formed {
 // The plan sent, mended, or 9.
 fn mended_plan(code: &[u8], catalog: Catalog, out: &mut [u8; 31]) -> Formed
     requires { ⌜ NamedFor (now code) catalog × (length (now out) ≡ 31) ⌝ }
-    ensures { λ r. ⌜ ((ts : List Table) → Tabled catalog ts → Named (now (code .entry)) ts → FormedAs ts (now (code .entry)) r (now (out .exit))) ⌝ }
+    ensures { λ r. ⌜ MendedFor catalog (now (code .entry)) r (now (out .exit)) ⌝ }
 {
     let masks = catalog.masks;
     let rows = catalog.rows;
@@ -34,7 +31,7 @@ fn mended_plan(code: &[u8], catalog: Catalog, out: &mut [u8; 31]) -> Formed
 // The plan found for tables without one, or 14.
 fn found_plan(catalog: Catalog, out: &mut [u8; 31]) -> Formed
     requires { ⌜ PlanlessFor catalog × (length (now out) ≡ 31) ⌝ }
-    ensures { λ r. ⌜ ((ts : List Table) → Tabled catalog ts → 0 < length ts → FormedAs ts [] r (now (out .exit))) ⌝ }
+    ensures { λ r. ⌜ FoundFor catalog r (now (out .exit)) ⌝ }
 {
     let masks = catalog.masks;
     let search = elimination::find_plan(&masks, catalog.count, out);
@@ -47,7 +44,7 @@ fn found_plan(catalog: Catalog, out: &mut [u8; 31]) -> Formed
 // Either, by whether a plan was sent.
 pub(crate) fn formed_plan(code: &[u8], catalog: Catalog, out: &mut [u8; 31]) -> Formed
     requires { ⌜ FormableFor (now code) catalog × (length (now out) ≡ 31) ⌝ }
-    ensures { λ r. ⌜ ((ts : List Table) → Tabled catalog ts → Formable (now (code .entry)) ts → FormedAs ts (now (code .entry)) r (now (out .exit))) ⌝ }
+    ensures { λ r. ⌜ FormedFor catalog (now (code .entry)) r (now (out .exit)) ⌝ }
 {
     if code.len() == 0 {
         found_plan(catalog, out)

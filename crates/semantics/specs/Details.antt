@@ -109,7 +109,8 @@ module _ (S : Shape) (n : ℕ) where
   -- "repeatedly", of the tables 0 to n - 1: what remains then, and what was hung, the latest first
   pub data Remains : List ℕ → List Hanging → Type 0 where
     start : Remains (upTo n) []
-    hung : {rest : List ℕ} {hs : List Hanging} {h : Hanging} → Remains rest hs → NextHung S rest h → Remains (without (h .child) rest) (h ∷ hs)
+    hung : {rest : List ℕ} {hs : List Hanging} {h : Hanging}
+        → Remains rest hs → NextHung S rest h → Remains (without (h .child) rest) (h ∷ hs)
 
   -- "no table can be hung; detail, the lowest remaining number"
   pub record NoneHangs (d : ℕ) : Type 0 where
@@ -134,7 +135,8 @@ NoPlan ts = (p : Plan) → NamedOnce (length ts) (tables p) → WellBehaved (sha
 
 -- the plan p is followed for these tables and bytes: the one sent, mended, or the one found
 pub data Followed (ts : List Table) (code : List ℕ) (p : Plan) : Type 0 where
-  mended : (s : SpellsPlan code) → NamedOnce (length ts) (tables (s .plan)) → Mendable (shapeOf ts) (s .plan) → mend (shapeOf ts) (s .plan) ≡ p → Followed ts code p
+  mended : (s : SpellsPlan code) → NamedOnce (length ts) (tables (s .plan)) → Mendable (shapeOf ts) (s .plan)
+      → mend (shapeOf ts) (s .plan) ≡ p → Followed ts code p
   found : WithoutPlan ts code → FoundPlan (shapeOf ts) (length ts) p → Followed ts code p
 
 -- ---- of a file

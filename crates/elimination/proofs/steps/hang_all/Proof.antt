@@ -2,8 +2,8 @@ use Prim.Native.Nat.{_-_}
 use mathlib.Core.Path.{refl}
 use native.Mathlib.Omega.{arith}
 use borrow.Author.Needs.{needs}
-use Rattle.elimination.specs.Steps.{Hanged}
-use Rattle.elimination.proofs.Hanging.{hanged-begun, child-below, hanged-more, hanged-stuck, hanged-rooted}
+use Rattle.elimination.specs.Steps.{HungSoFar}
+use Rattle.elimination.proofs.Hanging.{so-far-begun, child-below, so-far-more, so-far-stuck, so-far-rooted}
 use Rattle.elimination.proofs.steps.hang_all.Statement.{statement}
 use Rattle.elimination.proofs.steps.hang_all.Tie as tie
 use Rattle.elimination.proofs.steps.hang_all.Reads as reads
@@ -12,7 +12,7 @@ use Rattle.elimination.proofs.steps.lowest_remaining.Reads as lowest-re
 use Rattle.elimination.proofs.steps.next_hanging.Reads as next-hanging-reads
 
 abbrev Inv-loop : tie.InvT-loop
-Inv-loop masks count rest₀ parents₀ left₀ rest parents left = Hanged masks count rest parents left
+Inv-loop masks count rest₀ parents₀ left₀ rest parents left = HungSoFar masks count rest parents left
 
 abbrev μ-loop : tie.MeasureT-loop
 μ-loop masks count rest₀ parents₀ left₀ rest parents left = left
@@ -21,7 +21,7 @@ sub-left : tie.Need-sub-left Inv-loop μ-loop
 sub-left c = search needs
 
 loop-holds : tie.Need-loop-holds Inv-loop μ-loop
-loop-holds c = hanged-begun (c .pre .1) (c .pre .2)
+loop-holds c = so-far-begun (c .pre .1) (c .pre .2)
 
 next-hanging-requires : tie.Need-next-hanging-requires Inv-loop μ-loop
 next-hanging-requires c κs = search needs
@@ -45,7 +45,7 @@ lowest-remaining-requires : tie.Need-lowest-remaining-requires Inv-loop μ-loop
 lowest-remaining-requires c κs = search needs
 
 returns : tie.Need-returns Inv-loop μ-loop
-returns c = hanged-stuck (c .before .before .before .before .before .before .before .loop .inv) (c .before .before .before .before .before .before .before .before .pre .2) (c .before .before .before .before .before .before .before .before .pre .0) _ (c .before .before .before .before .next-hanging .ensures) (c .before .before .enum-told .given .1) (c .before .before .before .before .before .before .loop-test .taken) _ refl (c .lowest-remaining .ensures)
+returns c = so-far-stuck (c .before .before .before .before .before .before .before .loop .inv) (c .before .before .before .before .before .before .before .before .pre .2) (c .before .before .before .before .before .before .before .before .pre .0) _ (c .before .before .before .before .next-hanging .ensures) (c .before .before .enum-told .given .1) (c .before .before .before .before .before .before .loop-test .taken) _ refl (c .lowest-remaining .ensures)
 
 sub-left-2 : tie.Need-sub-left-2 Inv-loop μ-loop
 sub-left-2 c = search needs
@@ -54,14 +54,14 @@ loop-less : tie.Need-loop-less Inv-loop μ-loop
 loop-less c = search needs
 
 loop-again : tie.Need-loop-again Inv-loop μ-loop
-loop-again c = hanged-more (c .before .before .before .before .before .before .loop .inv) (c .before .before .before .before .before .before .before .pre .2) (c .before .before .before .before .before .before .before .pre .0) _ (c .before .before .before .next-hanging .ensures) _ _ (c .before .next .given .1) (c .before .before .before .before .before .loop-test .taken)
+loop-again c = so-far-more (c .before .before .before .before .before .before .loop .inv) (c .before .before .before .before .before .before .before .pre .2) (c .before .before .before .before .before .before .before .pre .0) _ (c .before .before .before .next-hanging .ensures) _ _ (c .before .next .given .1) (c .before .before .before .before .before .loop-test .taken)
 
 lowest-remaining-requires-2 :
     tie.Need-lowest-remaining-requires-2 Inv-loop μ-loop
 lowest-remaining-requires-2 c κs = search needs
 
 returns-2 : tie.Need-returns-2 Inv-loop μ-loop
-returns-2 c = hanged-rooted (c .before .before .before .loop .inv) (c .before .before .loop-test .left) _ refl (c .lowest-remaining2 .ensures) refl
+returns-2 c = so-far-rooted (c .before .before .before .loop .inv) (c .before .before .loop-test .left) _ refl (c .lowest-remaining2 .ensures) refl
 
 pub hang-all-spec : {M : Type 1} → statement M
 hang-all-spec =
