@@ -30,8 +30,8 @@ pub fn table(columns: Vec<(u32, Vec<u32>)>) -> Table {
     Table { attributes, columns }
 }
 
-/// The bytes of a file.
-pub fn bytes(tables: &[Table], plan: &Plan) -> Vec<u8> {
+/// The bytes of a file, with a plan's bytes or none.
+pub fn bytes(tables: &[Table], code: &[u8]) -> Vec<u8> {
     let mut file = Vec::new();
     for t in tables {
         file.extend(b"TB");
@@ -42,17 +42,16 @@ pub fn bytes(tables: &[Table], plan: &Plan) -> Vec<u8> {
             file.extend(column.iter().flat_map(|v| v.to_le_bytes()));
         }
     }
-    let code = plan.code();
     file.extend(b"PL");
     file.push(code.len() as u8);
-    file.extend(&code);
+    file.extend(code);
     file
 }
 
 pub struct Input {
     pub tables: Vec<Table>,
-    /// The plan in the file, and the one that is followed: another one if the file's is not well-behaved.
-    pub plan: Plan,
+    /// The plan in the file, where it has one, and the one that is followed: another one if the file's is not well-behaved.
+    pub plan: Option<Plan>,
     pub followed: Plan,
     pub file: Vec<u8>,
     pub scratch_words: usize,
@@ -61,8 +60,17 @@ pub struct Input {
 
 impl Input {
     pub fn new(tables: Vec<Table>, plan: Plan) -> Input {
-        let file = bytes(&tables, &plan);
         let followed = plan.mended(&tables).expect("a plan that can be mended");
+        Input::following(followed, tables, Some(plan))
+    }
+
+    pub fn without_plan(tables: Vec<Table>) -> Input {
+        let followed = Plan::found(&tables).expect("tables for which a plan is found");
+        Input::following(followed, tables, None)
+    }
+
+    fn following(followed: Plan, tables: Vec<Table>, plan: Option<Plan>) -> Input {
+        let file = bytes(&tables, &plan.as_ref().map_or(Vec::new(), Plan::code));
         let all_rows: usize = tables.iter().map(Table::rows).sum();
         let scratch_words = 8 * all_rows + followed.left_rows(&tables);
         let width = tables.iter().fold(0, |m, t| m | t.mask()).count_ones() as usize;
@@ -71,7 +79,12 @@ impl Input {
 
     /// The same tables in a file whose plan is the one that is followed, where the file's is another one.
     pub fn partner(&self) -> Option<Input> {
-        (self.plan != self.followed).then(|| Input::new(self.tables.clone(), self.followed.clone()))
+        (self.plan.as_ref() != Some(&self.followed)).then(|| Input::new(self.tables.clone(), self.followed.clone()))
+    }
+
+    /// The plan in the file, or the one that is followed where it has none.
+    pub fn given(&self) -> &Plan {
+        self.plan.as_ref().unwrap_or(&self.followed)
     }
 }
 
@@ -129,9 +142,9 @@ fn sample() -> Input {
     Input::new(vec![frames, exposures, readings], right_deep(3))
 }
 
-/// The sample file, its tables with the two plans of document 01 that are not well-behaved, and a file of five tables with such a
-/// plan.
-pub fn samples() -> [Input; 4] {
+/// The sample file, its tables with the two plans of document 01 that are not well-behaved, a file of five tables with such a plan,
+/// and the sample's tables without a plan.
+pub fn samples() -> [Input; 5] {
     let five = vec![
         table(vec![(3, vec![1, 2])]),
         table(vec![(0, vec![5]), (2, vec![7])]),
@@ -141,7 +154,8 @@ pub fn samples() -> [Input; 4] {
     ];
     let other = |code: &[u8]| Input::new(sample().tables, Plan::spelled(&mut code.iter().copied()));
     let plan = Plan::spelled(&mut [255, 3, 255, 255, 0, 255, 1, 4, 2].into_iter());
-    [sample(), other(&[255, 0, 255, 2, 1]), other(&[255, 255, 0, 1, 2]), Input::new(five, plan)]
+    let no_plan = Input::without_plan(sample().tables);
+    [sample(), other(&[255, 0, 255, 2, 1]), other(&[255, 255, 0, 1, 2]), Input::new(five, plan), no_plan]
 }
 
 /// Table i has attributes i and i + 1; a row finds one partner on average in the next table, often none or several.
@@ -311,7 +325,7 @@ fn partly_recorded(input: Input, seed: u64) -> Input {
             *value = NOT_RECORDED;
         }
     }
-    Input::new(tables, input.plan)
+    Input::new(tables, input.followed)
 }
 
 /// The chain with a left-deep plan: from some table on, at each join the next one at either end.
@@ -337,7 +351,7 @@ fn left_deep_chain(k: usize, n: usize, seed: u64) -> Input {
 fn sides_exchanged(input: Input, seed: u64) -> Input {
     let mut r = Random(!seed);
     loop {
-        let plan = input.plan.exchanged(&mut || r.below(2) == 0);
+        let plan = input.followed.exchanged(&mut || r.below(2) == 0);
         if plan.mended(&input.tables).as_ref() != Some(&plan) {
             return Input::new(input.tables, plan);
         }
@@ -346,8 +360,8 @@ fn sides_exchanged(input: Input, seed: u64) -> Input {
 
 /// The star with the sides of every join exchanged: the middle table, which every join needs, lies right at all of them.
 fn mirrored_star(k: usize, n: usize, seed: u64) -> Input {
-    let Input { tables, plan, .. } = star(k, n, seed);
-    Input::new(tables, plan.exchanged(&mut || true))
+    let Input { tables, followed, .. } = star(k, n, seed);
+    Input::new(tables, followed.exchanged(&mut || true))
 }
 
 /// 15 tables of the same two attributes and one that shares the second, each row with one partner in each. The one is named last.
@@ -367,6 +381,20 @@ fn equal_masks(n: usize, seed: u64) -> Input {
 /// its root but for one table at one join, and this join alone breaks the rule.
 fn worst_to_mend(n: usize, seed: u64) -> Input {
     Input::new(equal_masks(n, seed).tables, join(join(Leaf(15), left_deep(14)), Leaf(14)))
+}
+
+/// The chain with its first table as the last one, so that as many tables as can be are tried before one is hung: of those that remain
+/// the two highest can be.
+fn worst_to_find(k: usize, n: usize, seed: u64) -> Input {
+    let mut tables = chain(k, n, seed).tables;
+    tables.rotate_left(1);
+    Input::without_plan(tables)
+}
+
+/// Tables that share nothing: every row finds every row.
+fn nothing_shared(k: usize, n: usize, seed: u64) -> Input {
+    let mut r = Random(seed);
+    Input::without_plan((0..k as u32).map(|i| table(vec![(i, r.any(n))])).collect())
 }
 
 /// A shape with a number of rows in each table, and the files of it: one for each seed.
@@ -391,12 +419,14 @@ impl Case {
         (1..=(4096 / self.rows).min(64) as u64).map(|seed| (self.make)(seed)).collect()
     }
 
-    /// The same tables in files whose plans are the mended ones, where the plans are not well-behaved.
+    /// The same tables in files whose plans are the ones that are followed, where these are mended or found.
     pub fn partner(&self) -> Option<Case> {
-        self.first().partner()?;
+        let first = self.first();
+        first.partner()?;
+        let how = if first.plan.is_some() { "mended" } else { "found" };
         let make = self.make.clone();
-        let partner = move |seed| make(seed).partner().expect("a plan that is not well-behaved");
-        Some(case(&format!("{}, mended", self.shape), self.rows, partner))
+        let partner = move |seed| make(seed).partner().expect("a plan that is mended or found");
+        Some(case(&format!("{}, {how}", self.shape), self.rows, partner))
     }
 }
 
@@ -456,5 +486,19 @@ pub fn all() -> Vec<Case> {
             all.push(case(name, n, move |seed| shape(n, seed)));
         }
     }
+    all
+}
+
+/// Files without a plan: the shapes, and tables that are hung in other ways.
+pub fn without_plan() -> Vec<Case> {
+    let mut all = Vec::new();
+    for (name, shape, ..) in SHAPES {
+        for (k, n) in [(5, 64), (9, 64), (16, 64), (16, 512)] {
+            all.push(case(&format!("{name} of {k}, no plan"), n, move |seed| Input::without_plan(shape(k, n, seed).tables)));
+        }
+    }
+    all.push(case("equal masks of 16, no plan", 64, |seed| Input::without_plan(equal_masks(64, seed).tables)));
+    all.push(case("chain of 16, worst to find, no plan", 64, |seed| worst_to_find(16, 64, seed)));
+    all.push(case("nothing shared by 16, no plan", 1, |seed| nothing_shared(16, 1, seed)));
     all
 }

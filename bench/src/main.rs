@@ -1,12 +1,14 @@
 //! The bench: the proved join beside an unproved twin, a HashMap join and SQLite, on the same files in one run.
 //!
-//!     bench [NAME]              the tables: times as ratios, growth, instructions; what mending a plan costs; of the files whose
-//!                               names have NAME in them
+//!     bench [NAME]              the tables: times as ratios, growth, instructions; what mending a plan and finding one cost; of the
+//!                               files whose names have NAME in them
 //!     bench --quick [NAME]      the tables without instructions
 //!     bench --check [NAME]      no times: whether all give the same results
-//!     bench --once [NAME]       each file once by the library and once by the twin, for callgrind; then those with mended plans
+//!     bench --once [NAME]       each file once by the library and once by the twin, for callgrind; then those with mended plans,
+//!                               those without plans, and those with found ones
 //!     bench --files FOLDER      writes the files
 
+mod finding;
 mod hashmap;
 mod inputs;
 mod library;
@@ -29,7 +31,7 @@ use sqlite::{Order, Query};
 /// The longest output that document 01 uses.
 const OUTPUT_WORDS: usize = 1_048_576;
 
-/// How many small files with any plans are tried.
+/// How many small files are tried, with any plans and without.
 const SMALL_FILES: u64 = 20_000;
 
 /// Buffers for one file. They are lent as the run before left them: the join zeroes its scratch itself, before and after.
@@ -68,7 +70,7 @@ fn check(name: &str, input: &Input, queries: [&mut Query; 2]) -> Vec<u32> {
     }
     let values = one.output[..answer.rows as usize * input.width].to_vec();
     let expected = summary(&values, input.width);
-    assert_eq!(expected, summary(&hashmap::join(&input.file, &input.plan), input.width), "{name}: HashMap");
+    assert_eq!(expected, summary(&hashmap::join(&input.file, input.given()), input.width), "{name}: HashMap");
     for query in queries {
         assert_eq!(expected, summary(&query.run(), input.width), "{name}: SQLite");
     }
@@ -81,11 +83,15 @@ fn check(name: &str, input: &Input, queries: [&mut Query; 2]) -> Vec<u32> {
     values
 }
 
-/// A file whose plan is mended must give what the file with the mended plan gives, in every word and count.
+/// A file whose plan is mended or found must give what the file with that plan gives, in every word and count.
 fn check_partner(name: &str, partner: &Input, answer: &Answer, output: &[u32]) {
     let mut b = Buffers::new(partner);
-    assert_eq!(*answer, library::join(&partner.file, &mut b.scratch, &mut b.output), "{name}: answer of the mended plan");
-    assert!(output == b.output, "{name}: output of the mended plan");
+    assert_eq!(
+        *answer,
+        library::join(&partner.file, &mut b.scratch, &mut b.output),
+        "{name}: answer of the plan that is followed"
+    );
+    assert!(output == b.output, "{name}: output of the plan that is followed");
 }
 
 /// What no join can do without: each byte of the file read once, each word of the results written once.
@@ -117,26 +123,50 @@ fn check_plans() {
     let (mut mended, mut refused) = (0, 0);
     for seed in 0..SMALL_FILES {
         let (tables, plan) = small::tables_and_plan(1 + seed as usize % 16, seed);
-        let file = inputs::bytes(&tables, &plan);
-        let (mut s, mut o) = ([7; 500], [7; 2000]);
-        let (mut t, mut p) = (s, o);
-        let answer = library::join(&file, &mut s, &mut o);
-        assert_eq!((answer, s, o), (twin::twin_join(&file, &mut t, &mut p), t, p), "{file:?}");
+        let answer = check_small(&inputs::bytes(&tables, &plan.code()));
         refused += u64::from(answer.number == 9);
         mended += u64::from(plan.mended(&tables).is_some_and(|m| m != plan));
     }
     println!("{SMALL_FILES} small files: library and twin agree; {mended} plans mended, {refused} refused by answer 9");
 }
 
-fn check_all(cases: &[Case]) {
+/// The twin must find the plan that the library finds for small files without one, and join by it, or refuse as the library does.
+fn check_found() {
+    let (mut found, mut refused) = (0, 0);
+    for seed in 0..SMALL_FILES {
+        let answer = check_small(&inputs::bytes(&small::tables_alone(1 + seed as usize % 16, seed), &[]));
+        refused += u64::from(answer.number == 14);
+        found += u64::from(answer.number != 14);
+    }
+    println!(
+        "{SMALL_FILES} small files without a plan: library and twin agree; {found} plans found, {refused} refused by answer 14"
+    );
+}
+
+/// The answer of library and twin, which must agree in it and in the buffers.
+fn check_small(file: &[u8]) -> Answer {
+    let (mut s, mut o) = ([7; 500], [7; 2000]);
+    let (mut t, mut p) = (s, o);
+    let answer = library::join(file, &mut s, &mut o);
+    assert_eq!((answer, s, o), (twin::twin_join(file, &mut t, &mut p), t, p), "{file:?}");
+    answer
+}
+
+/// A file's results' values, by `check` with databases of its own.
+fn check_alone(name: &str, input: &Input) -> Vec<u32> {
+    let mut queries = [Query::new(input, Order::Forced), Query::new(input, Order::Free)];
+    let [forced, free] = &mut queries;
+    check(name, input, [forced, free])
+}
+
+fn check_all<'a>(cases: impl Iterator<Item = &'a Case>) {
     for case in cases {
         let input = case.first();
-        let mut queries = [Query::new(&input, Order::Forced), Query::new(&input, Order::Free)];
-        let [forced, free] = &mut queries;
-        let results = check(&case.name(), &input, [forced, free]).len() / input.width;
+        let results = check_alone(&case.name(), &input).len() / input.width;
         if case.shape == "sample" {
             inputs::samples().iter().for_each(|s| check_damaged(&s.file));
             check_plans();
+            check_found();
         }
         let mut b = Buffers::new(&input);
         let a = library::join(&input.file, &mut b.scratch, &mut b.output);
@@ -240,16 +270,14 @@ const COLUMNS: [Column; 11] = [
     ("/ twin", 7),
 ];
 
-const MENDING_COLUMNS: [Column; 8] = [
-    ("plan that is mended x rows in each table", 40),
-    ("join, us", 8),
-    ("mending, us", 11),
-    ("/ join", 6),
-    ("twin, us", 8),
-    ("instructions", 12),
-    ("/ join", 6),
-    ("twin", 6),
-];
+const MENDING_COLUMNS: [Column; 8] = cost_columns("plan that is mended x rows in each table", "mending, us");
+
+const FINDING_COLUMNS: [Column; 8] = cost_columns("file without a plan x rows in each table", "finding, us");
+
+/// The columns of a table of what a plan costs that is not followed as it was sent.
+const fn cost_columns(files: &'static str, cost: &'static str) -> [Column; 8] {
+    [(files, 40), ("join, us", 8), (cost, 11), ("/ join", 6), ("twin, us", 8), ("instructions", 12), ("/ join", 6), ("twin", 6)]
+}
 
 fn print_row(columns: &[Column], cells: &[String]) {
     let mut line = format!("| {:<w$} |", cells[0], w = columns[0].1);
@@ -278,7 +306,7 @@ fn measure(case: &Case) -> (usize, Vec<f64>) {
     let t = times(&mut [
         &mut || files.iter().for_each(|f| _ = black_box(library::join(&f.file, &mut one.scratch, &mut one.output))),
         &mut || files.iter().for_each(|f| _ = black_box(twin::twin_join(&f.file, &mut two.scratch, &mut two.output))),
-        &mut || files.iter().for_each(|f| _ = black_box(hashmap::join(&f.file, &f.plan))),
+        &mut || files.iter().for_each(|f| _ = black_box(hashmap::join(&f.file, f.given()))),
         &mut || forced.iter_mut().for_each(|q| _ = black_box(q.run())),
         &mut || free.iter_mut().for_each(|q| _ = black_box(q.run())),
         &mut || files.iter().zip(&results).for_each(|(f, v)| _ = black_box(limit(&f.file, v, black_box(&mut output)))),
@@ -338,37 +366,99 @@ fn file_times(contestants: &[(Join, &[Input])]) -> Vec<f64> {
     least.iter().map(|l| l.iter().sum::<Duration>().as_secs_f64() * 1e6 / l.len() as f64).collect()
 }
 
-/// What mending costs, for cases with their partners. `counts` has the instructions of all cases, then of the partners.
-fn mending_table(cases: &[Case], partners: &[(usize, Case)], counts: Option<&[[u64; 2]]>) {
+/// What mending costs, for cases with their partners.
+fn mending_table(run: &Run, counts: Option<&[[u64; 2]]>) {
     println!("\nMending: what a file takes more than the file with the mended plan in it, which is joined in the same way.");
     println!("Join is the library's for the latter; the twin's mending stands behind the library's.\n");
     print_heads(&MENDING_COLUMNS);
-    for (n, (i, partner)) in partners.iter().enumerate() {
-        let (files, mended) = (cases[*i].files(), partner.files());
-        let [library, twin]: [Join; 2] = [library::join, twin::twin_join];
-        let t = file_times(&[(library, &files), (library, &mended), (twin, &files), (twin, &mended)]);
-        let mut cells = vec![cases[*i].name(), format!("{:.1}", t[1]), format!("{:.1}", t[0] - t[1])];
-        cells.extend([format!("{:.3}", (t[0] - t[1]) / t[1]), format!("{:.1}", t[2] - t[3])]);
-        cells.extend(counts.map_or(["-"; 3].map(String::from), |c| mending_counts(c[*i], c[cases.len() + n])));
-        print_row(&MENDING_COLUMNS, &cells);
+    run.mended.iter().for_each(|pair| print_cost(&MENDING_COLUMNS, run, pair, counts));
+}
+
+/// What finding costs, for cases with their partners. All must agree first.
+fn finding_table(run: &Run, counts: Option<&[[u64; 2]]>) {
+    println!("\nFinding: what a file without a plan takes more than the file with the found plan in it, which is joined in the same way.");
+    println!("Join is the library's for the latter; the twin's finding stands behind the library's.\n");
+    print_heads(&FINDING_COLUMNS);
+    for pair in &run.found {
+        let case = &run.cases[pair[0]];
+        case.files().iter().for_each(|f| _ = check_alone(&case.name(), f));
+        print_cost(&FINDING_COLUMNS, run, pair, counts);
     }
 }
 
-/// The library's instructions for mending, their ratio to those of the join, and the twin's.
-fn mending_counts(with: [u64; 2], without: [u64; 2]) -> [String; 3] {
+/// The row of a case and its partner: what the first takes more than the second.
+fn print_cost(columns: &[Column], run: &Run, &[i, p]: &[usize; 2], counts: Option<&[[u64; 2]]>) {
+    let (files, partners) = (run.cases[i].files(), run.cases[p].files());
+    let [library, twin]: [Join; 2] = [library::join, twin::twin_join];
+    let t = file_times(&[(library, &files), (library, &partners), (twin, &files), (twin, &partners)]);
+    let mut cells = vec![run.cases[i].name(), format!("{:.1}", t[1]), format!("{:.1}", t[0] - t[1])];
+    cells.extend([format!("{:.3}", (t[0] - t[1]) / t[1]), format!("{:.1}", t[2] - t[3])]);
+    cells.extend(counts.map_or(["-"; 3].map(String::from), |c| cost_counts(c[i], c[p])));
+    print_row(columns, &cells);
+}
+
+/// What the library takes more in instructions, its ratio to those of the join, and what the twin does.
+fn cost_counts(with: [u64; 2], without: [u64; 2]) -> [String; 3] {
     let more = |i: usize| with[i] as i64 - without[i] as i64;
     [more(0).to_string(), format!("{:.3}", more(0) as f64 / without[0] as f64), more(1).to_string()]
 }
 
-fn tables(cases: &[Case], partners: &[(usize, Case)], counts: Option<Vec<[u64; 2]>>) {
-    table(cases, counts.as_deref());
-    if !partners.is_empty() {
-        mending_table(cases, partners, counts.as_deref());
+/// The cases of a run, in the order in which instructions are counted: those of the first table, the partners of such as are mended,
+/// those without a plan, and their partners.
+struct Run {
+    cases: Vec<Case>,
+    /// How many stand in the first table.
+    shown: usize,
+    /// By their places, cases with their partners.
+    mended: Vec<[usize; 2]>,
+    found: Vec<[usize; 2]>,
+}
+
+impl Run {
+    /// The cases whose names have a name in them.
+    fn new(name: &str) -> Run {
+        let of_name = |cases: Vec<Case>| cases.into_iter().filter(|c| c.name().contains(name)).collect::<Vec<_>>();
+        let mut cases = of_name(inputs::all());
+        let shown = cases.len();
+        let mended = add_partners(&mut cases, 0);
+        let from = cases.len();
+        cases.extend(of_name(inputs::without_plan()));
+        let found = add_partners(&mut cases, from);
+        Run { cases, shown, mended, found }
+    }
+
+    /// All cases that are no partners.
+    fn own(&self) -> impl Iterator<Item = &Case> {
+        self.cases[..self.shown].iter().chain(self.found.iter().map(|pair| &self.cases[pair[0]]))
+    }
+
+    fn print(&self, counts: Option<Vec<[u64; 2]>>) {
+        let counts = counts.as_deref();
+        if self.shown > 0 {
+            table(&self.cases[..self.shown], counts);
+        }
+        if !self.mended.is_empty() {
+            mending_table(self, counts);
+        }
+        if !self.found.is_empty() {
+            finding_table(self, counts);
+        }
     }
 }
 
+/// Puts the partners of the cases from a place on behind all cases. Cases with their partners, by their places.
+fn add_partners(cases: &mut Vec<Case>, from: usize) -> Vec<[usize; 2]> {
+    let mut pairs = Vec::new();
+    for i in from..cases.len() {
+        if let Some(partner) = cases[i].partner() {
+            pairs.push([i, cases.len()]);
+            cases.push(partner);
+        }
+    }
+    pairs
+}
+
 fn main() {
-    let mut cases = inputs::all();
     let arguments: Vec<String> = std::env::args().skip(1).collect();
     let (mode, name) = match arguments.iter().map(String::as_str).collect::<Vec<_>>()[..] {
         [mode @ ("--quick" | "--check" | "--once")] => (mode, ""),
@@ -381,18 +471,17 @@ fn main() {
         }
     };
     if mode == "--files" {
-        for case in &cases {
+        for case in Run::new("").own() {
             let file = case.name().replace(',', "").replace(' ', "-");
             std::fs::write(std::path::Path::new(name).join(file), &case.first().file).unwrap();
         }
         return;
     }
-    cases.retain(|c| c.name().contains(name));
-    let partners: Vec<(usize, Case)> = cases.iter().enumerate().filter_map(|(i, c)| Some((i, c.partner()?))).collect();
+    let run = Run::new(name);
     match mode {
-        "--check" => check_all(&cases),
-        "--once" => cases.iter().chain(partners.iter().map(|p| &p.1)).for_each(once),
-        "--quick" => tables(&cases, &partners, None),
-        _ => tables(&cases, &partners, instructions(cases.len() + partners.len(), name)),
+        "--check" => check_all(run.own()),
+        "--once" => run.cases.iter().for_each(once),
+        "--quick" => run.print(None),
+        _ => run.print(instructions(run.cases.len(), name)),
     }
 }

@@ -339,7 +339,7 @@ mod tests {
         let most = calls(&shapes(&[(3, 1); 16]), &left_deep(16).code());
         assert_eq!(most, (951, 800));
         let worst = inputs::all().iter().find(|c| c.shape == "equal masks of 16, worst to mend").unwrap().first();
-        assert_eq!(calls(&without_columns(&worst.tables), &worst.plan.code()), (949, 799));
+        assert_eq!(calls(&without_columns(&worst.tables), &worst.given().code()), (949, 799));
         for seed in 0..SEEDS {
             let (tables, plan) = small_plan(16, seed);
             if mend(&plan.code(), &tables).is_ok() {

@@ -1,5 +1,5 @@
-//! Mending once more from the words of the request, plainly and slowly: every tree that is asked about is built. The tests hold
-//! `mending` to it.
+//! Mending and finding once more from the words of the requests, plainly and slowly: every tree that is asked about is built. The
+//! tests hold `mending` and `finding` to it.
 
 use crate::plans::Plan;
 use crate::twin::Table;
@@ -103,6 +103,38 @@ fn penalties(tables: &[Table; 16], plan: &Plan, root: usize) -> Vec<u32> {
 /// The least penalty over all selections of roots.
 pub fn least_penalty(tables: &[Table; 16], plan: &Plan) -> u32 {
     plan.order().iter().flat_map(|&root| penalties(tables, plan, root)).min().expect("a selection")
+}
+
+/// The table under which one of those that remain can be hung.
+fn hangs_under(tables: &[Table; 16], rest: &[usize], t: usize) -> Option<usize> {
+    let others: Vec<usize> = rest.iter().copied().filter(|&u| u != t).collect();
+    let shared = others.iter().fold(0, |m, &u| m | tables[u].mask) & tables[t].mask;
+    others.into_iter().find(|&u| holds(tables, u, shared))
+}
+
+/// The tables that are hung, in turn, each with the one under which it hangs; and those that remain.
+pub fn hung(tables: &[Table; 16], count: usize) -> (Vec<(usize, usize)>, Vec<usize>) {
+    let (mut hung, mut rest) = (Vec::new(), (0..count).collect::<Vec<_>>());
+    while let Some(next) = rest.iter().find_map(|&t| Some((t, hangs_under(tables, &rest, t)?))) {
+        hung.push(next);
+        rest.retain(|&t| t != next.0);
+    }
+    (hung, rest)
+}
+
+/// The tree of a table and what hangs under it, children in rising number.
+fn tree_of_hung(hung: &[(usize, usize)], table: usize) -> Tree {
+    let mut children: Vec<usize> = hung.iter().filter(|h| h.1 == table).map(|h| h.0).collect();
+    children.sort();
+    Tree { table, children: children.into_iter().map(|t| tree_of_hung(hung, t)).collect() }
+}
+
+/// The bytes of the plan that is found, or the detail of answer 14.
+pub fn find(tables: &[Table; 16], count: usize) -> Result<Vec<u8>, usize> {
+    match hung(tables, count) {
+        (hung, rest) if rest.len() == 1 => Ok(tree_of_hung(&hung, rest[0]).code()),
+        (_, rest) => Err(rest[0]),
+    }
 }
 
 /// Whether at every join both leftmost tables hold the join attributes.

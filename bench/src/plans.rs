@@ -1,7 +1,7 @@
-//! A plan as a tree: its bytes, and what is followed in its place where it is not well-behaved.
+//! A plan as a tree: its bytes, and what is followed in its place where it is not well-behaved, or where there is none.
 
 use crate::inputs::Table;
-use crate::{mending, twin};
+use crate::{finding, mending, twin};
 
 #[derive(Clone, PartialEq, Debug)]
 pub enum Plan {
@@ -21,6 +21,11 @@ pub fn right_deep(tables: usize) -> Plan {
 
 pub fn left_deep(tables: usize) -> Plan {
     (1..tables).fold(Leaf(0), |left, t| join(left, Leaf(t)))
+}
+
+/// Tables as a plan knows them, without their columns.
+fn shapes(tables: &[Table]) -> [twin::Table; 16] {
+    std::array::from_fn(|t| tables.get(t).map_or(twin::Table::default(), |t| twin::Table::shape(t.mask(), t.rows())))
 }
 
 impl Plan {
@@ -60,11 +65,13 @@ impl Plan {
 
     /// The plan that is followed: the mended one, which is the same if the plan is well-behaved. Nothing where answer 9 is due.
     pub fn mended(&self, tables: &[Table]) -> Option<Plan> {
-        let mut shapes = [twin::Table::default(); 16];
-        for (shape, t) in shapes.iter_mut().zip(tables) {
-            *shape = twin::Table::shape(t.mask(), t.rows());
-        }
-        let code = mending::mend(&self.code(), &shapes).ok()?;
+        let code = mending::mend(&self.code(), &shapes(tables)).ok()?;
+        Some(Plan::spelled(&mut code.into_iter()))
+    }
+
+    /// The plan that is found for tables without one. Nothing where answer 14 is due.
+    pub fn found(tables: &[Table]) -> Option<Plan> {
+        let code = finding::find(&shapes(tables), tables.len()).ok()?;
         Some(Plan::spelled(&mut code.into_iter()))
     }
 
