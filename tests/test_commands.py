@@ -158,7 +158,7 @@ class Dumping(Folder):
             lines[:4],
             [
                 "FILE: 126 bytes, 3 tables, 11 rows, plan (table0 (table2 table1))",
-                "within the rules: no answer from 1 to 9 is due; the scratch needed is 96 words, a result has 4 "
+                "within the rules: none of the answers 1 to 9 is due; the scratch needed is 96 words, a result has 4 "
                 "values",
                 "the plan as sent, (table0 (table2 table1)), is not well-behaved: the join follows "
                 "(table0 (table1 table2)), bytes ff 00 ff 01 02",

@@ -505,7 +505,7 @@ class Commands(Folder):
             [line.replace(self.at("out"), "FILE") for line in lines[:3]],
             [
                 "FILE: 121 bytes, 3 tables, 11 rows, plan of length 0: the library finds one",
-                "within the rules: no answer from 1 to 7, and not 14, is due; the scratch needed is 95 words, a "
+                "within the rules: none of the answers 1 to 7 and 14 is due; the scratch needed is 95 words, a "
                 "result has 4 values",
                 "no plan was sent, and the join follows the one that is found: (readings (exposures frames)), bytes "
                 "ff 02 ff 01 00",

@@ -199,8 +199,8 @@ def summary(path: str, file: File, names: Names) -> List[str]:
 
 def followed_in_words(file: File, mended: mending.Mended, names: Names) -> List[str]:
     """That no refusal is due as far as the reader goes, and which plan a join follows if it is not the file's own."""
-    first = "within the rules: no answer from 1 to %s is due; the scratch needed is %s, a result has %s" % (
-        "7, and not 14," if file.found else "9",
+    first = "within the rules: none of the answers 1 to %s is due; the scratch needed is %s, a result has %s" % (
+        "7 and 14" if file.found else "9",
         count(plans.words_needed(mended.plan, file.tables), "word"),
         count(len(plans.width(file.tables)), "value"),
     )
