@@ -3,31 +3,27 @@ use mathlib.Core.Path.{_≡_, refl, sym, ap, ap₂, _∙_, fun-ext}
 use mathlib.Core.Bool.{Bool, true, false, _&&_, _||_, not, or-false}
 use mathlib.Core.List.{List, [], _∷_}
 use mathlib.Core.Option.{Option, none, some}
-use Prim.Native.Nat.{ℕ, suc, _+_, _-_, _<_, _≤_, _^_, _%_, zero-le}
+use Prim.Native.Nat.{ℕ, suc, _+_, _-_, _<_, _≤_, _^_, zero-le}
 use native.Mathlib.Omega.{arith}
-use native.Mathlib.Nat.{zero-div, sub-zero}
+use native.Mathlib.Nat.{sub-zero}
 use native.Mathlib.Numerals.{add-one}
 use lib.ListN.{getD}
 use lib.Dec.{eqb}
 use lib.Bits.{bitAnd, bitOr, and-le-l}
 use borrow.Author.Tests.{eqb-false, eq-eqb, ne-eqb}
 use Rattle.semantics.specs.Lists.{Each, any, all, filter, first, consIf, from}
-use Rattle.semantics.specs.Files.{bit, hasBit}
+use Rattle.semantics.specs.Files.{hasBit}
 use Rattle.semantics.specs.Shapes.{Shape, attributes}
 use Rattle.semantics.proofs.Cases.{cases}
 use Rattle.semantics.proofs.Lists.{any-append, filter-append, any-each, Each-map, Each-filter}
 use Rattle.semantics.proofs.Numbers.{filter-last, from-lt}
-use Rattle.words.proofs.Masks.{hasBit-and, hasBit-or, covers}
+use Rattle.words.proofs.Masks.{no-attribute, hasBit-and, hasBit-or, covers}
 use Rattle.words.specs.Masks.{Masked}
 use Rattle.semantics.specs.Elimination.{without, sharedIn, sharedAttributes, parentOf, nextOf}
 use Rattle.elimination.specs.Parents.{remaining, OthersHave, firstCovering, parentFound, Gathered, Uncovered}
 use Rattle.elimination.specs.Steps.{nextFound, Unhung}
 use Rattle.elimination.specs.declared.parents.Parent.{Parent}
 use Rattle.elimination.specs.declared.parents.Parent.the-variants as parent
-
-pub no-attribute : (a : ℕ) → hasBit 0 a ≡ false
-unfolding hasBit bit
-no-attribute a = ap (λ n. eqb (n % 2) 1) (zero-div (2 ^ a))
 
 -- the numbers from u on
 pub from-next : (u n : ℕ) → u < n → from u (n - u) ≡ u ∷ from (u + 1) (n - (u + 1))

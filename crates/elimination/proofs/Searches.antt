@@ -2,14 +2,15 @@
 use mathlib.Core.Path.{_≡_, refl, sym, ap, _∙_, subst}
 use mathlib.Core.Bool.{true, false}
 use mathlib.Core.List.{List}
-use Prim.Native.Nat.{ℕ, _+_, _*_, _<_, _≤_}
+use Prim.Native.Nat.{ℕ, _+_, _<_, _≤_}
 use native.Mathlib.Omega.{arith}
-use lib.ListN.{length, take, getD, length-append}
+use lib.ListN.{length, take, getD}
 use lib.Seq.{ext-getD, getD-take, length-take-le}
 use Rattle.semantics.specs.Lists.{sum, from}
-use Rattle.semantics.specs.Plans.{Plan, scan, join, encode, tables, leftmost}
+use Rattle.semantics.specs.Plans.{Plan, encode, tables, leftmost}
 use Rattle.semantics.specs.Shapes.{Shape}
 use Rattle.semantics.proofs.Cases.{true-false}
+use Rattle.semantics.proofs.Spelling.{plan-length}
 use Rattle.semantics.proofs.Lists.{sum-one}
 use Rattle.semantics.proofs.Numbers.{length-from}
 use Rattle.words.specs.Masks.{Masked}
@@ -25,11 +26,6 @@ use Rattle.elimination.specs.declared.Search.the-variants as search
 use Rattle.elimination.specs.Steps.{Shaped, HungAs}
 use Rattle.elimination.specs.Writing.{Wrote, Writable, PlanWrote}
 use Rattle.elimination.specs.Searches.{SearchIs}
-
--- a plan of k tables is spelled by 2 k - 1 bytes
-plan-length : (p : Plan) → length (encode p) + 1 ≡ 2 * length (tables p)
-plan-length (scan t) = refl
-plan-length (join l r) = omega (arith, plan-length l, plan-length r, length-append (encode l) (encode r), length-append (tables l) (tables r))
 
 -- what is written from index 0 on is the front of the code
 pub wrote-front : {old bytes code : List ℕ} {next : ℕ} → Wrote old 0 bytes code next → next ≤ length old → take next code ≡ bytes

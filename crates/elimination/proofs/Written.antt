@@ -5,7 +5,7 @@ use mathlib.Core.List.{List, [], _∷_, _++_, append-assoc, append-nil}
 use Prim.Native.Nat.{ℕ, zero, suc, _+_, _-_, _%_, _<_, _≤_, zero-le}
 use native.Mathlib.Omega.{arith}
 use native.Mathlib.Numerals.{add-one}
-use lib.ListN.{length, getD, set, replicate, length-set, length-append, length-replicate, List·getD-append}
+use lib.ListN.{length, getD, set, replicate, length-set, length-append, length-replicate, replicate-append-replicate, List·getD-append}
 use lib.Seq.{getD-set-same, getD-set-other, getD-append-seam, getD-append-add}
 use lib.Dec.{eqb, ltb}
 use borrow.Author.Tests.{eq-eqb, ne-eqb, ltb-true, ltb-false}
@@ -58,10 +58,6 @@ wrote-more {old} {at} {bytes} {mid} {next} {more} {code} {last} v w =
     }
 
 -- ---- the joins
-replicate-last : (k x : ℕ) → replicate (suc k) x ≡ replicate k x ++ (x ∷ [])
-replicate-last zero x = refl
-replicate-last (suc k) x = ap (λ l. x ∷ l) (replicate-last k x)
-
 count-last : (parents : List ℕ) (t c : ℕ) → childCount parents t (c + 1) ≡ childCount parents t c + length (consIf (eqb (getD parents c 0) t) c [])
 count-last parents t c =
     ap length (filter-last (λ c. eqb (getD parents c 0) t) c) ∙ length-append (filter (λ c. eqb (getD parents c 0) t) (from 0 c)) (consIf (eqb (getD parents c 0) t) c [])
@@ -90,7 +86,7 @@ module _ {parents : List ℕ} {n t : ℕ} {old : List ℕ} {at : ℕ} where
   pub joining-more : {code : List ℕ} {next c : ℕ} → Joining parents n t old at code next c → c < n → getD parents c 0 ≡ t → next < length old → Joining parents n t old at (set code next 255) (next + 1) (c + 1)
   joining-more {code} {next} {c} j h e r =
       let one : childCount parents t (c + 1) ≡ childCount parents t c + 1 = count-last parents t c ∙ rw (eq-eqb (getD parents c 0) t e) in
-      let bytes : replicate {A = ℕ} (childCount parents t (c + 1)) 255 ≡ replicate (childCount parents t c) 255 ++ (255 ∷ []) = ap (λ k. replicate {A = ℕ} k 255) (one ∙ add-one (childCount parents t c)) ∙ replicate-last (childCount parents t c) 255 in
+      let bytes : replicate {A = ℕ} (childCount parents t (c + 1)) 255 ≡ replicate (childCount parents t c) 255 ++ (255 ∷ []) = ap (λ k. replicate {A = ℕ} k 255) one ∙ sym (replicate-append-replicate (childCount parents t c) 1 255) in
       record { within = omega arith; wrote = rw bytes (wrote-byte 255 (j .wrote) r) }
 
   pub joining-all : {code : List ℕ} {next c : ℕ} → Joining parents n t old at code next c → n ≤ c → Wrote old at (replicate (childCount parents t n) 255) code next

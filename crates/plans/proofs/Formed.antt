@@ -1,6 +1,5 @@
 -- A plan that is formed: found for tables without one, or mended; the join follows it.
 use mathlib.Core.Path.{_≡_, refl, sym, ap, _∙_, subst}
-use mathlib.Core.Bool.{true, false}
 use mathlib.Core.List.{List, [], _∷_}
 use Prim.Native.Nat.{ℕ, _<_, _≤_}
 use native.Mathlib.Omega.{arith}
@@ -9,12 +8,11 @@ use Rattle.semantics.specs.Files.{Table}
 use Rattle.semantics.specs.Plans.{misplaced, planOf}
 use Rattle.semantics.specs.Shapes.{Shape, shapeOf}
 use Rattle.semantics.specs.Elimination.{eliminate, planUnder}
-use Rattle.semantics.specs.Outcome.{refused, admitted, foundVerdict, asksForPlan, planVerdict, scratchVerdict, WithinRules}
-use Rattle.semantics.proofs.Cases.{true-false}
+use Rattle.semantics.specs.Outcome.{refused, admitted, foundVerdict, planVerdict, scratchVerdict, WithinRules}
 use Rattle.semantics.proofs.Spelling.{planOf-encode}
 use Rattle.semantics.proofs.Misplaced.{spelled-exactly}
 use Rattle.semantics.proofs.FoundPlans.{elimination-cases}
-use Rattle.semantics.proofs.Rules.{asks-tables, plan-found, plan-within}
+use Rattle.semantics.proofs.Rules.{asks-plan, plan-asked, plan-found, plan-within}
 use Rattle.words.specs.Masks.{Masked}
 use Rattle.elimination.specs.Steps.{Shaped}
 use Rattle.elimination.specs.Searches.{SearchIs}
@@ -32,18 +30,6 @@ use Rattle.plans.specs.Forming.{FormableFor, PlanlessFor, PlanIn, Formed
 use Rattle.plans.proofs.Admitting.{masked, masks-are, count-is, spelled-sent}
 use Rattle.plans.proofs.Scratch.{refused-admission}
 
--- ---- when a plan is asked for
-tables-ask : (ts : List Table) → 0 < length ts → asksForPlan ts [] ≡ true
-unfolding asksForPlan
-tables-ask [] l = absurd (omega arith)
-tables-ask (t ∷ ts) l = refl
-
-empty-asked : (ts : List Table) (code : List ℕ) → asksForPlan ts code ≡ true → length code ≡ 0
-unfolding asksForPlan
-empty-asked ts [] e = refl
-empty-asked [] (b ∷ code) e = absurd (true-false false e refl)
-empty-asked (t ∷ ts) (b ∷ code) e = absurd (true-false false e refl)
-
 -- ---- what is found
 module _ (c : Catalog) (ts : List Table) (h : Tabled c ts) where
   pub table-masks : Masked (c .masks) (shapeOf ts)
@@ -54,7 +40,7 @@ module _ (c : Catalog) (ts : List Table) (h : Tabled c ts) where
     found-is = rw (count-is c ts h) at (is (shapeOf ts) table-masks)
 
     none-sent : planVerdict ts [] ≡ foundVerdict ts
-    none-sent = plan-found ts [] (tables-ask ts l)
+    none-sent = plan-found ts [] (plan-asked ts [] (record { present = l; empty = refl }))
 
     -- answer 14
     pub found-refused : (d : ℕ) → r ≡ search.Stuck d → planVerdict ts [] ≡ refused 14 d
@@ -86,7 +72,7 @@ searchable c q =
 
 -- ---- which of the two is formed
 asked-empty : (ts : List Table) (code : List ℕ) → Formable code ts → length code ≡ 0 → (code ≡ []) × (0 < length ts)
-asked-empty ts [] (asked e) l = (refl, asks-tables ts [] e)
+asked-empty ts [] (asked e) l = (refl, (asks-plan ts [] e) .present)
 asked-empty ts [] (sent n) l = let e = n .spelled in let z : _≡_ {A = ℕ} 0 1 = cc in absurd (omega arith)
 asked-empty ts (b ∷ code) f l = absurd (omega arith)
 
@@ -95,7 +81,7 @@ formed-empty ts code r out f l is = let (e, p) = asked-empty ts code f l in subs
 
 pub sent-named : (ts : List Table) (code : List ℕ) → Formable code ts → (length code ≡ 0 → ⊥) → Named code ts
 sent-named ts code (sent n) l = n
-sent-named ts code (asked e) l = absurd (l (empty-asked ts code e))
+sent-named ts code (asked e) l = absurd (l (ap length ((asks-plan ts code e) .empty)))
 
 pub planless-for : (c : Catalog) (code : List ℕ) → FormableFor code c → length code ≡ 0 → PlanlessFor c
 planless-for c code q l = record { ts = q .ts; tabled = q .tabled; present = (asked-empty (q .ts) code (q .formable) l) .1 }

@@ -4,14 +4,14 @@ use mathlib.Core.Path.{_≡_, refl, sym, ap, ap₂, _∙_, fun-ext}
 use mathlib.Core.Bool.{Bool, true, not}
 use mathlib.Core.List.{List, [], _∷_}
 use mathlib.Core.Option.{none, some}
-use Prim.Native.Nat.{ℕ, zero, suc, _+_, _*_, _≤_, _<_, _^_}
+use Prim.Native.Nat.{ℕ, zero, suc, _+_, _≤_, _<_, _^_}
 use native.Mathlib.Omega.{arith}
-use lib.ListN.{length, getD, length-append}
+use lib.ListN.{length, getD}
 use lib.Dec.{eqb, ltb}
 use borrow.Author.Tests.{eqb-true, eq-eqb, ne-eqb, ltb-true, ltb-false}
 use Rattle.semantics.specs.Lists.{filter, from}
 use Rattle.semantics.specs.Files.{Table, hasBit}
-use Rattle.semantics.specs.Plans.{Plan, scan, join, encode, tables, misplaced, planOf, misnamed}
+use Rattle.semantics.specs.Plans.{encode, tables, misplaced, planOf, misnamed}
 use Rattle.semantics.specs.Shapes.{noTable, shapeOf}
 use Rattle.semantics.specs.Details.{Once}
 use Rattle.semantics.specs.Mending.{mend, unmendable}
@@ -19,7 +19,7 @@ use Rattle.semantics.specs.Outcome.{refused, admitted, sentVerdict, planVerdict
 use Rattle.semantics.proofs.Cases.{cases}
 use Rattle.semantics.proofs.Lists.{sum-one}
 use Rattle.semantics.proofs.Numbers.{length-from}
-use Rattle.semantics.proofs.Spelling.{spelled-out}
+use Rattle.semantics.proofs.Spelling.{plan-length, spelled-out}
 use Rattle.semantics.proofs.Naming.{plan-names, plan-sum}
 use Rattle.semantics.proofs.Mending.{sums-once}
 use Rattle.semantics.proofs.Rules.{plan-sent}
@@ -37,10 +37,6 @@ use Rattle.plans.specs.Forming.{PlanIn}
 use Rattle.plans.proofs.Admitting.{each-at, mask-at, rows-at, masks-are, rows-are, spelled-sent}
 
 -- ---- 16 tables named once each have a plan of 31 bytes at most
-plan-length : (p : Plan) → length (encode p) + 1 ≡ 2 * length (tables p)
-plan-length (scan t) = refl
-plan-length (join l r) = omega (arith, plan-length l, plan-length r, length-append (encode l) (encode r), length-append (tables l) (tables r))
-
 code-short : (n : ℕ) (code : List ℕ) → n ≤ 16 → misplaced 1 0 code ≡ none → misnamed n [] 0 code ≡ none → length code ≤ 31
 code-short n code w h g =
     let (s, e) = spelled-out code h in

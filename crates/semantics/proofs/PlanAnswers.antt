@@ -24,20 +24,8 @@ use Rattle.semantics.proofs.FoundPlans.{elimination-cases, sums-named, 
 use Rattle.semantics.proofs.Eliminating.{stuck-exactly, rooted-exactly}
 use Rattle.semantics.proofs.Forests.{planUnder-leftmost}
 use Rattle.semantics.proofs.LastRoots.{root-last}
-use Rattle.semantics.proofs.Rules.{plan-sent, plan-found}
+use Rattle.semantics.proofs.Rules.{asks-plan, plan-asked, plan-sent, plan-found}
 use Rattle.semantics.proofs.SentAnswers.{sent-seven, sent-eight, sent-nine, sent-within, sent-other}
-
--- ---- a plan is asked for
-asks : (ts : List Table) (code : List ℕ) → asksForPlan ts code ≡ true → WithoutPlan ts code
-unfolding asksForPlan
-asks [] code e = absurd (true-false false e refl)
-asks (t ∷ ts) [] e = record { present = omega arith; empty = refl }
-asks (t ∷ ts) (b ∷ code) e = absurd (true-false false e refl)
-
-without-asks : (ts : List Table) (code : List ℕ) → WithoutPlan ts code → asksForPlan ts code ≡ true
-unfolding asksForPlan
-without-asks [] code w = let z = w .present in absurd (omega arith)
-without-asks (t ∷ ts) code w = rw (w .empty)
 
 -- bytes that spell a plan do not ask for one
 spells-plan : (ts : List Table) (code : List ℕ) → SpellsPlan code → WithoutPlan ts code → ⊥
@@ -49,12 +37,12 @@ spells-plan ts code s w = some-byte (s .plan) (s .is ∙ w .empty)
 
 module _ (ts : List Table) (code : List ℕ) where
   asked : WithoutPlan ts code → planVerdict ts code ≡ foundVerdict ts
-  asked w = plan-found ts code (without-asks ts code w)
+  asked w = plan-found ts code (plan-asked ts code w)
 
   plan-cases : {P : Type 0} → (WithoutPlan ts code → planVerdict ts code ≡ foundVerdict ts → P) → ((WithoutPlan ts code → ⊥) → planVerdict ts code ≡ sentVerdict ts code → P) → P
   plan-cases f g =
-      cases (asksForPlan ts code) (λ h. f (asks ts code h) (plan-found ts code h))
-      (λ h. g (λ w. true-false (asksForPlan ts code) (without-asks ts code w) h) (plan-sent ts code h))
+      cases (asksForPlan ts code) (λ h. f (asks-plan ts code h) (plan-found ts code h))
+      (λ h. g (λ w. true-false (asksForPlan ts code) (plan-asked ts code w) h) (plan-sent ts code h))
 
   -- ---- what is found: 14 or a plan
   found-plan : {z : ℕ} {hs : List Hanging} → eliminate (shapeOf ts) (length ts) ≡ rooted z hs → foundVerdict ts ≡ admitted ts (planUnder hs z)

@@ -15,6 +15,7 @@ use Rattle.semantics.specs.Plans.{Plan, tables, misplaced, planOf, misna
 use Rattle.semantics.specs.Shapes.{noTable, shapeOf, holds, rowsIn, scratchNeed}
 use Rattle.semantics.specs.Mending.{unmendable}
 use Rattle.semantics.specs.Elimination.{Hanging, rooted, eliminate, planUnder}
+use Rattle.semantics.specs.Details.{WithoutPlan}
 use Rattle.semantics.specs.Outcome.{Verdict, refused, admitted, BeforeTen, ThroughTen, sentVerdict, foundVerdict, asksForPlan, planVerdict, readVerdict, rulesVerdict, scratchVerdict, verdict, WithinRules}
 use Rattle.semantics.proofs.Cases.{cases, option-cases, true-false}
 use Rattle.semantics.proofs.Lists.{Each-map, sum-one, any-sum, length-filter-sum}
@@ -75,11 +76,17 @@ unfolding foundVerdict
 found-judged ts l few =
     elimination-cases (eliminate (shapeOf ts) (length ts)) (λ z hs e. rw (e, foundVerdict) (refl, rooted-within ts z hs l few e)) (λ d e. rw (e, foundVerdict) refl)
 
--- the plan is asked for only where there are tables
-pub asks-tables : (ts : List Table) (code : List ℕ) → asksForPlan ts code ≡ true → 0 < length ts
+-- a plan is asked for where the request says
+pub asks-plan : (ts : List Table) (code : List ℕ) → asksForPlan ts code ≡ true → WithoutPlan ts code
 unfolding asksForPlan
-asks-tables [] code e = absurd (true-false false e refl)
-asks-tables (t ∷ ts) code e = omega arith
+asks-plan [] code e = absurd (true-false false e refl)
+asks-plan (t ∷ ts) [] e = record { present = omega arith; empty = refl }
+asks-plan (t ∷ ts) (b ∷ code) e = absurd (true-false false e refl)
+
+pub plan-asked : (ts : List Table) (code : List ℕ) → WithoutPlan ts code → asksForPlan ts code ≡ true
+unfolding asksForPlan
+plan-asked [] code w = let z = w .present in absurd (omega arith)
+plan-asked (t ∷ ts) code w = rw (w .empty)
 
 -- the verdict is that on a plan that is sent, or that on the plan that is found
 pub plan-sent : (ts : List Table) (code : List ℕ) → asksForPlan ts code ≡ false → planVerdict ts code ≡ sentVerdict ts code
@@ -93,7 +100,7 @@ plan-found ts code e = rw (e, planVerdict)
 plan-judged : (ts : List Table) (code : List ℕ) → length ts ≤ 16 → Judged BeforeTen ts (planVerdict ts code)
 plan-judged ts code few =
     cases (asksForPlan ts code)
-    (λ h. rw (plan-found ts code h) (widen (λ n. n ≡ 14) BeforeTen ts (λ n e. inr e) (foundVerdict ts) (found-judged ts (asks-tables ts code h) few)))
+    (λ h. rw (plan-found ts code h) (widen (λ n. n ≡ 14) BeforeTen ts (λ n e. inr e) (foundVerdict ts) (found-judged ts ((asks-plan ts code h) .present) few)))
     (λ h. rw (plan-sent ts code h) (widen (λ n. (7 ≤ n) × (n ≤ 9)) BeforeTen ts (λ n e. inl (omega (arith, e .0), e .1)) (sentVerdict ts code) (sent-judged ts code)))
 
 rules-judged : (bytes : List ℕ) → Judged BeforeTen ((read bytes) .tables) (rulesVerdict bytes)

@@ -3,14 +3,19 @@ use mathlib.Core.Path.{_≡_, refl, sym, ap, _∙_}
 use mathlib.Core.Bool.{true, false}
 use mathlib.Core.List.{List, [], _∷_, _++_, append-assoc, append-nil}
 use mathlib.Core.Option.{none, some}
-use Prim.Native.Nat.{ℕ, zero, suc, _+_, _<_}
+use Prim.Native.Nat.{ℕ, zero, suc, _+_, _*_, _<_}
 use native.Mathlib.Omega.{arith}
 use lib.ListN.{length, length-append}
 use lib.Dec.{eqb, ltb}
 use borrow.Author.Tests.{eqb-true, ne-eqb, ltb-true, lt-ltb}
 use Rattle.semantics.specs.Lists.{Each, concatMap}
-use Rattle.semantics.specs.Plans.{Plan, scan, join, encode, Small, misplaced, spelled, firstPlan, planOf}
+use Rattle.semantics.specs.Plans.{Plan, scan, join, encode, tables, Small, misplaced, spelled, firstPlan, planOf}
 use Rattle.semantics.proofs.Cases.{cases}
+
+-- a plan of k tables has 2 k - 1 bytes
+pub plan-length : (p : Plan) → length (encode p) + 1 ≡ 2 * length (tables p)
+plan-length (scan t) = refl
+plan-length (join l r) = omega (arith, plan-length l, plan-length r, length-append (encode l) (encode r), length-append (tables l) (tables r))
 
 spelled-encode : (p : Plan) → Small p → (bs : List ℕ) → spelled (encode p ++ bs) ≡ p ∷ spelled bs
 spelled-encode (scan t) h bs = rw (ne-eqb t 255 (λ e. omega arith), spelled)
