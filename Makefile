@@ -138,7 +138,7 @@ clean:
 help:
 	@printf '%s\n' \
 	    'make run [FILE=path]   joins a file, or the sample; 2 to 4 minutes the first time, since all is proved first, then a second' \
-	    'make test              rt ci: proves everything from nothing and tries the must-fail edits; 17 to 22 minutes' \
+	    'make test              rt ci: proves everything from nothing and tries the must-fail edits; up to 20 minutes' \
 	    'make lib               target/lib/libpigrozd.a and libpigrozd.so; 2 to 4 minutes the first time, 20 seconds after make run' \
 	    'make install [PREFIX=/usr/local] [DESTDIR=]' \
 	    '                       header, libraries, pkg-config file, program and manual pages; a second after make lib and make run' \

@@ -6,7 +6,7 @@ import unittest
 
 from support import load, path
 
-SPECS, PROOFS = "crates/semantics/specs", "crates/semantics/proofs"
+SPECS, PROOFS = "crates/semantics/specs", "crates/theory/proofs"
 
 
 def text(*parts):

@@ -1,9 +1,9 @@
 -- One turn of each search.
 use mathlib.Core.Path.{_≡_, refl, sym, ap, ap₂, _∙_, fun-ext}
-use mathlib.Core.Bool.{Bool, true, false, _&&_, _||_, not, or-false}
-use mathlib.Core.List.{List, [], _∷_}
+use mathlib.Core.Bool.{Bool, true, false, _&&_, not}
+use mathlib.Core.List.{List, [], _∷_, _++_, append-nil}
 use mathlib.Core.Option.{Option, none, some}
-use Prim.Native.Nat.{ℕ, suc, _+_, _-_, _<_, _≤_, _^_, zero-le}
+use Prim.Native.Nat.{ℕ, suc, _+_, _-_, _<_, _≤_, zero-le}
 use native.Mathlib.Omega.{arith}
 use native.Mathlib.Nat.{sub-zero}
 use native.Mathlib.Numerals.{add-one}
@@ -11,13 +11,14 @@ use lib.ListN.{getD}
 use lib.Dec.{eqb}
 use lib.Bits.{bitAnd, bitOr, and-le-l}
 use borrow.Author.Tests.{eqb-false, eq-eqb, ne-eqb}
-use Rattle.semantics.specs.Lists.{Each, any, all, filter, first, consIf, from}
+use Rattle.theory.specs.Elements.{Each}
+use Rattle.semantics.specs.Lists.{any, all, filter, first, consIf, from}
 use Rattle.semantics.specs.Files.{hasBit}
 use Rattle.semantics.specs.Shapes.{Shape, attributes}
-use Rattle.semantics.proofs.Cases.{cases}
-use Rattle.semantics.proofs.Lists.{any-append, filter-append, any-each, Each-map, Each-filter}
-use Rattle.semantics.proofs.Numbers.{filter-last, from-lt}
-use Rattle.words.proofs.Masks.{no-attribute, hasBit-and, hasBit-or, covers}
+use Rattle.theory.proofs.Cases.{cases}
+use Rattle.theory.proofs.Lists.{filter-append, any-each, Each-map, Each-filter}
+use Rattle.theory.proofs.Numbers.{filter-last, from-lt}
+use Rattle.words.proofs.Masks.{no-attribute, hasBit-and, union-more, covers}
 use Rattle.words.specs.Masks.{Masked}
 use Rattle.semantics.specs.Elimination.{without, sharedIn, sharedAttributes, parentOf, nextOf}
 use Rattle.elimination.specs.Parents.{remaining, OthersHave, firstCovering, parentFound, Gathered, Uncovered}
@@ -36,13 +37,20 @@ from-none u n h = let e : n - u ≡ 0 = omega arith in ap (from u) e
 
 -- ---- one table more
 module _ (masks : List ℕ) (flags : List Bool) (t : ℕ) where
-  has-after : (u a : ℕ) → any (λ v. hasBit (getD masks v 0) a) (without t (remaining (u + 1) flags))
-      ≡ (any (λ v. hasBit (getD masks v 0) a) (without t (remaining u flags)) || any (λ v. hasBit (getD masks v 0) a) (without t (consIf (getD flags u false) u [])))
+  others-next : (u : ℕ) → without t (remaining (u + 1) flags) ≡ without t (remaining u flags) ++ without t (consIf (getD flags u false) u [])
   unfolding without
-  has-after u a =
-      ap (λ l. any (λ v. hasBit (getD masks v 0) a) (without t l)) (filter-last (λ t. getD flags t false) u)
-      ∙ ap (any (λ v. hasBit (getD masks v 0) a)) (filter-append (λ v. not (eqb v t)) (remaining u flags) (consIf (getD flags u false) u []))
-      ∙ any-append (λ v. hasBit (getD masks v 0) a) (without t (remaining u flags)) (without t (consIf (getD flags u false) u []))
+  others-next u = ap (without t) (filter-last (λ t. getD flags t false) u) ∙ filter-append (λ v. not (eqb v t)) (remaining u flags) (consIf (getD flags u false) u [])
+
+  -- a table that is gone, or t itself; and another
+  others-same : (u : ℕ) → (getD flags u false ≡ true → u ≡ t) → without t (remaining (u + 1) flags) ≡ without t (remaining u flags)
+  unfolding without
+  others-same u f =
+      others-next u
+      ∙ cases (getD flags u false) (λ h. rw (h, eq-eqb u t (f h)) (append-nil (without t (remaining u flags)))) (λ h. rw h (append-nil (without t (remaining u flags))))
+
+  others-more : (u : ℕ) → getD flags u false ≡ true → (u ≡ t → ⊥) → without t (remaining (u + 1) flags) ≡ without t (remaining u flags) ++ (u ∷ [])
+  unfolding without
+  others-more u f d = others-next u ∙ rw (f, ne-eqb u t d)
 
   -- the first that covers, of the tables from u on
   module _ (n m : ℕ) where
@@ -58,24 +66,16 @@ module _ {masks : List ℕ} {flags : List Bool} {n t : ℕ} where
   unfolding without
   gathered-begun = record { within = zero-le; attributes = λ a. no-attribute a }
 
-  -- a table that is gone, or t itself
   pub gathered-gone : {u have : ℕ} → Gathered masks flags n t u have → u < n → (getD flags u false ≡ true → u ≡ t) → Gathered masks flags n t (u + 1) have
-  unfolding without
   gathered-gone {u} {have} g l f =
-      record {
-        within = omega arith;
-        attributes = λ a. g .attributes a ∙ sym (has-after masks flags t u a ∙ cases (getD flags u false)
-            (λ h. rw (h, eq-eqb u t (f h)) (or-false (any (λ v. hasBit (getD masks v 0) a) (without t (remaining u flags)))))
-            (λ h. rw h (or-false (any (λ v. hasBit (getD masks v 0) a) (without t (remaining u flags))))));
-      }
+      record { within = omega arith; attributes = λ a. g .attributes a ∙ ap (any (λ v. hasBit (getD masks v 0) a)) (sym (others-same masks flags t u f)) }
 
   pub gathered-more : {u have : ℕ} → Gathered masks flags n t u have → u < n → getD flags u false ≡ true → (u ≡ t → ⊥) → Gathered masks flags n t (u + 1) (bitOr have (getD masks u 0))
-  unfolding without
   gathered-more {u} {have} g l f d =
       record {
         within = omega arith;
-        attributes = λ a. hasBit-or have (getD masks u 0) a
-            ∙ sym (has-after masks flags t u a ∙ rw (f, ne-eqb u t d) (ap₂ (λ x y. x || y) (sym (g .attributes a)) (or-false (hasBit (getD masks u 0) a))));
+        attributes = λ a. union-more (λ v. getD masks v 0) (without t (remaining u flags)) u have a (g .attributes a)
+            ∙ ap (any (λ v. hasBit (getD masks v 0) a)) (sym (others-more masks flags t u f d));
       }
 
   pub gathered-all : {u have : ℕ} → Gathered masks flags n t u have → n ≤ u → OthersHave masks (remaining n flags) t have

@@ -10,21 +10,22 @@ use lib.ListN.{length, getD, set, replicate, length-set, length-replicate, getD-
 use lib.Seq.{getD-set-same, getD-set-other}
 use lib.Dec.{eqb}
 use borrow.Author.Tests.{eq-eqb, ne-eqb}
-use Rattle.semantics.specs.Lists.{Each, filter, from, upTo, member}
+use Rattle.theory.specs.Elements.{Each, member}
+use Rattle.semantics.specs.Lists.{filter, from, upTo}
 use Rattle.semantics.specs.Shapes.{Shape}
-use Rattle.semantics.proofs.Cases.{true-false}
-use Rattle.semantics.proofs.Lists.{Each-map, Each-with, Each-filter, filter-passes, filter-filter, filter-each, filter-true, each}
-use Rattle.semantics.proofs.Numbers.{length-from, from-lt, rising-from, rising-filter}
+use Rattle.theory.proofs.Cases.{true-false}
+use Rattle.theory.proofs.Lists.{Each-map, Each-with, Each-filter, filter-passes, filter-filter, filter-each, filter-true, each}
+use Rattle.theory.proofs.Numbers.{length-from, from-lt, rising-from, rising-filter}
 use Rattle.words.specs.Masks.{Masked}
 use Rattle.semantics.specs.Elimination.{Hanging, stuck, without, lowest, nextOf, hangAll, eliminate}
-use Rattle.semantics.proofs.TableSets.{decide, member-each}
-use Rattle.semantics.specs.Details.{Ear}
-use Rattle.semantics.proofs.Hangings.{length-without, step-ear}
+use Rattle.theory.proofs.TableSets.{decide, member-each}
+use Rattle.theory.specs.Details.{Ear}
+use Rattle.theory.proofs.Hangings.{length-without, step-ear}
 use Rattle.elimination.specs.declared.steps.Hung.{Hung}
-use Rattle.elimination.specs.declared.steps.Next.{Next}
-use Rattle.elimination.specs.declared.steps.Next.the-variants as next
+use Rattle.elimination.specs.declared.steps.NextHanging.{NextHanging}
+use Rattle.elimination.specs.declared.steps.NextHanging.the-variants as next
 use Rattle.elimination.specs.Parents.{remaining}
-use Rattle.elimination.specs.Steps.{nextFound, Shaped, ParentsOf, HungAs, Gone, HungSoFar}
+use Rattle.elimination.specs.Steps.{nextFound, Shaped, ParentsAre, HungAs, Gone, HungSoFar}
 use Rattle.elimination.proofs.Covering.{from-next, from-none}
 
 -- ---- the lowest table that remains
@@ -95,7 +96,7 @@ eqb-sym : (x y : ℕ) → eqb x y ≡ eqb y x
 eqb-sym x y = decide x y (λ e. eq-eqb x y e ∙ sym (eq-eqb y x (sym e))) (λ d. ne-eqb x y d ∙ sym (ne-eqb y x (λ e. d (sym e))))
 
 module _ {masks : List ℕ} {n : ℕ} {flags : List Bool} {parents : List ℕ} {m : ℕ} (g : HungSoFar masks n flags parents m) (few : n ≤ 16) (w : Shaped masks)
-    (r : Next) (is : (S : Shape) → Masked masks S → r ≡ nextFound (nextOf S (remaining n flags) (remaining n flags))) where
+    (r : NextHanging) (is : (S : Shape) → Masked masks S → r ≡ nextFound (nextOf S (remaining n flags) (remaining n flags))) where
   module _ (c p : ℕ) (e : r ≡ next.Hang c p) where
     hung-next : (S : Shape) → Masked masks S → nextOf S (remaining n flags) (remaining n flags) ≡ some (record { child = c; parent = p })
     hung-next S M = next-hang (nextOf S (remaining n flags) (remaining n flags)) c p (sym e ∙ is S M)
@@ -142,4 +143,4 @@ pub so-far-rooted : {masks : List ℕ} {n : ℕ} {flags : List Bool} {parents : 
     → (h : Hung) → h .stuck ≡ false → h .table ≡ lowest (remaining n flags) → h .parents ≡ parents → (S : Shape) → Masked masks S → HungAs h (eliminate S n)
 so-far-rooted {masks} {n} {flags} {parents} {m} g z h a b c S M =
     let e : m ≡ 0 = omega arith in
-    subst (HungAs h) (sym (g .ahead S M ∙ ap (λ k. hangAll S k (remaining n flags) (g .hung)) e)) (a, b, subst (λ x. ParentsOf x (g .hung)) (sym c) (g .named))
+    subst (HungAs h) (sym (g .ahead S M ∙ ap (λ k. hangAll S k (remaining n flags) (g .hung)) e)) (a, b, subst (λ x. ParentsAre x (g .hung)) (sym c) (g .named))

@@ -9,19 +9,20 @@ use native.Mathlib.Nat.{zero-add, add-zero}
 use lib.ListN.{length, replicate, length-append}
 use lib.Dec.{eqb, ltb}
 use borrow.Author.Tests.{eqb-true, eq-eqb, ne-eqb, lt-ltb, le-ltb}
-use Rattle.semantics.specs.Lists.{Each, filter, consIf, onlyIf, concatMap, from, upTo, member}
+use Rattle.theory.specs.Elements.{Each, onlyIf, member}
+use Rattle.semantics.specs.Lists.{filter, consIf, concatMap, from, upTo}
 use Rattle.semantics.specs.Plans.{Plan, scan, join, encode, leftmost}
 use Rattle.semantics.specs.Shapes.{Shape}
-use Rattle.semantics.proofs.Cases.{cases, option-cases, and-left, or-left, or-right, or-cases, true-false}
-use Rattle.semantics.proofs.Lists.{Each-map}
-use Rattle.semantics.proofs.Numbers.{filter-last, from-lt}
+use Rattle.theory.proofs.Cases.{cases, option-cases, and-left, or-left, or-right, or-cases, true-false}
+use Rattle.theory.proofs.Lists.{Each-map}
+use Rattle.theory.proofs.Numbers.{filter-last, from-lt}
 use Rattle.semantics.specs.JoinTrees.{hangRising}
 use Rattle.semantics.specs.Elimination.{Hanging, rooted, without, nextOf, hangAll, eliminate, planUnder}
 use Rattle.elimination.specs.Steps.{hungUnder}
 use Rattle.elimination.specs.Writing.{isHung, HungOnce}
-use Rattle.semantics.proofs.TableSets.{decide, member-each}
-use Rattle.semantics.proofs.Hangings.{out-without, step-ear}
-use Rattle.semantics.proofs.Forests.{planUnder-leftmost, at-parent, elsewhere}
+use Rattle.theory.proofs.TableSets.{decide, member-each}
+use Rattle.theory.proofs.Hangings.{out-without, step-ear}
+use Rattle.theory.proofs.Forests.{planUnder-leftmost, at-parent, elsewhere}
 
 hung-under : (hs : List Hanging) (t c : ℕ) → hungUnder hs t c ≡ true → isHung hs c ≡ true
 hung-under [] t c e = e

@@ -1,5 +1,5 @@
 -- The whole search, from what was hung to the bytes of the plan.
-use mathlib.Core.Path.{_≡_, refl, sym, ap, _∙_, subst}
+use mathlib.Core.Path.{_≡_, sym, ap, _∙_, subst}
 use mathlib.Core.Bool.{true, false}
 use mathlib.Core.List.{List}
 use Prim.Native.Nat.{ℕ, _+_, _<_, _≤_}
@@ -9,17 +9,17 @@ use lib.Seq.{ext-getD, getD-take, length-take-le}
 use Rattle.semantics.specs.Lists.{sum, from}
 use Rattle.semantics.specs.Plans.{Plan, encode, tables, leftmost}
 use Rattle.semantics.specs.Shapes.{Shape}
-use Rattle.semantics.proofs.Cases.{true-false}
-use Rattle.semantics.proofs.Spelling.{plan-length}
-use Rattle.semantics.proofs.Lists.{sum-one}
-use Rattle.semantics.proofs.Numbers.{length-from}
+use Rattle.theory.proofs.Cases.{true-false}
+use Rattle.theory.proofs.Spelling.{plan-length}
+use Rattle.theory.proofs.Lists.{sum-one}
+use Rattle.theory.proofs.Numbers.{length-from}
 use Rattle.words.specs.Masks.{Masked}
-use Rattle.semantics.proofs.JoinTrees.{names-leftmost}
+use Rattle.theory.proofs.JoinTrees.{names-leftmost}
 use Rattle.semantics.specs.Elimination.{eliminate, planUnder}
-use Rattle.semantics.proofs.TableSets.{member-each}
-use Rattle.semantics.proofs.Forests.{planUnder-leftmost}
+use Rattle.theory.proofs.TableSets.{member-each}
+use Rattle.theory.proofs.Forests.{planUnder-leftmost}
 use Rattle.elimination.proofs.PlanBytes.{rooted-once}
-use Rattle.semantics.proofs.FoundPlans.{elimination-cases, sums-named, rooted-plan}
+use Rattle.theory.proofs.FoundPlans.{elimination-cases, sums-named, rooted-plan}
 use Rattle.elimination.specs.declared.steps.Hung.{Hung}
 use Rattle.elimination.specs.declared.Search.{Search}
 use Rattle.elimination.specs.declared.Search.the-variants as search

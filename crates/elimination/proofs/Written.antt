@@ -2,22 +2,23 @@
 use mathlib.Core.Path.{_≡_, refl, sym, ap, _∙_, subst}
 use mathlib.Core.Bool.{Bool, true, false}
 use mathlib.Core.List.{List, [], _∷_, _++_, append-assoc, append-nil}
-use Prim.Native.Nat.{ℕ, zero, suc, _+_, _-_, _%_, _<_, _≤_, zero-le}
+use Prim.Native.Nat.{ℕ, suc, _+_, _-_, _%_, _<_, _≤_, zero-le}
 use native.Mathlib.Omega.{arith}
 use native.Mathlib.Numerals.{add-one}
 use lib.ListN.{length, getD, set, replicate, length-set, length-append, length-replicate, replicate-append-replicate, List·getD-append}
-use lib.Seq.{getD-set-same, getD-set-other, getD-append-seam, getD-append-add}
+use lib.Seq.{getD-set-other, getD-append-seam, getD-append-add}
 use lib.Dec.{eqb, ltb}
 use borrow.Author.Tests.{eq-eqb, ne-eqb, ltb-true, ltb-false}
-use Rattle.semantics.specs.Lists.{filter, consIf, onlyIf, concatMap, from}
+use Rattle.semantics.specs.Lists.{filter, consIf, concatMap, from}
+use Rattle.theory.specs.Elements.{onlyIf}
 use Rattle.semantics.specs.Plans.{encode}
-use Rattle.semantics.proofs.Cases.{cases}
-use Rattle.semantics.proofs.Lists.{Each-map, filter-append, filter-each, concatMap-append}
-use Rattle.semantics.proofs.Numbers.{filter-last, from-lt, from-split}
+use Rattle.theory.proofs.Cases.{cases}
+use Rattle.theory.proofs.Lists.{Each-map, filter-append, filter-each, concatMap-append}
+use Rattle.theory.proofs.Numbers.{filter-last, from-lt, from-split}
 use Rattle.semantics.specs.Elimination.{Hanging, planUnder}
-use Rattle.semantics.proofs.TableSets.{decide}
+use Rattle.words.proofs.Arrays.{set-more}
 use Rattle.elimination.proofs.PlanBytes.{plan-bytes, concatMap-last}
-use Rattle.elimination.specs.Steps.{hungUnder, ParentsOf}
+use Rattle.elimination.specs.Steps.{hungUnder, ParentsAre}
 use Rattle.elimination.specs.Writing.{HungOnce, childCount, Wrote, Writable, PlanWrote, Joining, plansBelow, Planning}
 
 -- ---- bytes one after the other
@@ -30,13 +31,12 @@ wrote-byte {old} {at} {bytes} {code} {next} x w h =
       end = omega (arith, w .end, length-append bytes (x ∷ []));
       size = length-set code next x ∙ w .size;
       before = λ i l. getD-set-other code next i x 0 (λ e. omega (arith, w .end)) ∙ w .before i l;
-      here = λ i l. decide i (length bytes)
-          (λ e.
-          let z : at + i ≡ next = omega (arith, w .end) in
-          ap (λ j. getD (set code next x) j 0) z ∙ getD-set-same code next x 0 (omega (arith, w .size)) ∙ sym (ap (λ j. getD (bytes ++ (x ∷ [])) j 0) e ∙ getD-append-seam bytes x [] 0))
-          (λ d.
-          let less : i < length bytes = omega (arith, length-append bytes (x ∷ [])) in
-          getD-set-other code next (at + i) x 0 (λ e. omega (arith, w .end)) ∙ w .here i less ∙ sym (List·getD-append bytes (x ∷ []) 0 i less));
+      here = λ i l. set-more (λ j v. (i : ℕ) → at + i ≡ j → v ≡ getD (bytes ++ (x ∷ [])) i 0) code next x (omega (arith, w .size))
+          (λ j below i q.
+          let less : i < length bytes = omega (arith, w .end) in
+          ap (λ j. getD code j 0) (sym q) ∙ w .here i less ∙ sym (List·getD-append bytes (x ∷ []) 0 i less))
+          (λ i q. let e : i ≡ length bytes = omega (arith, w .end) in sym (ap (λ j. getD (bytes ++ (x ∷ [])) j 0) e ∙ getD-append-seam bytes x [] 0))
+          (at + i) (omega (arith, w .end, length-append bytes (x ∷ []))) i refl;
     }
 
 pub wrote-more : {old : List ℕ} {at : ℕ} {bytes mid : List ℕ} {next : ℕ} {more code : List ℕ} {last : ℕ} → Wrote old at bytes mid next → Wrote mid next more code last → Wrote old at (bytes ++ more) code last
@@ -93,7 +93,7 @@ module _ {parents : List ℕ} {n t : ℕ} {old : List ℕ} {at : ℕ} where
   joining-all {code} {next} {c} j h = let e : c ≡ n = omega (arith, j .within) in subst (λ k. Wrote old at (replicate (childCount parents t k) 255) code next) e (j .wrote)
 
 -- ---- the plan
-module _ (parents : List ℕ) (n t : ℕ) (few : n ≤ 16) (small : t < 16) (hs : List Hanging) (o : HungOnce n hs) (named : ParentsOf parents hs) where
+module _ (parents : List ℕ) (n t : ℕ) (few : n ≤ 16) (small : t < 16) (hs : List Hanging) (o : HungOnce n hs) (named : ParentsAre parents hs) where
   abbrev kid : ℕ → List ℕ
   kid x = onlyIf (hungUnder hs t x) (encode (planUnder hs x))
 
@@ -161,7 +161,7 @@ module _ {parents : List ℕ} {n t : ℕ} {at : ℕ} (w : Writable parents n t a
                   subst (λ l. Wrote old at l code next) (sym same) (p .wrote hs o named);
             }
 
-        child-bytes : (e : getD parents c 0 ≡ t) (hs : List Hanging) → HungOnce n hs → ParentsOf parents hs → plansBelow parents n t hs (c + 1) ≡ plansBelow parents n t hs c ++ encode (planUnder hs c)
+        child-bytes : (e : getD parents c 0 ≡ t) (hs : List Hanging) → HungOnce n hs → ParentsAre parents hs → plansBelow parents n t hs (c + 1) ≡ plansBelow parents n t hs c ++ encode (planUnder hs c)
         child-bytes e hs o named =
             let one : hungUnder hs t c ≡ true = sym (named t c (w .below) (omega (arith, w .few))) ∙ eq-eqb (getD parents c 0) t e in
             plans-more parents n t (w .few) (w .below) hs o named c ∙ ap (λ b. plansBelow parents n t hs c ++ onlyIf b (encode (planUnder hs c))) one

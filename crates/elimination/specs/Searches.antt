@@ -16,6 +16,6 @@ abbrev pub SearchIs : Elimination → Search → List ℕ → List ℕ → Type 
 SearchIs (rooted t hs) r before out = (n : ℕ) × (r ≡ search.Plan n) × (n ≤ 31) × (length out ≡ 31) × (take n out ≡ encode (planUnder hs t))
 SearchIs (stuck d) r before out = (r ≡ search.Stuck d) × (out ≡ before)
 
--- so it is of the tables 0 to n - 1, whatever tables have these masks
+-- the end of the search among the tables 0 to n - 1, whatever tables have these masks
 abbrev pub Searched : List ℕ → ℕ → List ℕ → List ℕ → Search → Type 0
 Searched masks n before out r = (S : Shape) → Masked masks S → SearchIs (eliminate S n) r before out

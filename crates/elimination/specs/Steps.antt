@@ -12,16 +12,16 @@ use Rattle.semantics.specs.Elimination.{Hanging, Elimination, rooted, stuck, lo
 use Rattle.words.specs.Masks.{Masked}
 use Rattle.elimination.specs.Parents.{remaining}
 use Rattle.elimination.specs.declared.steps.Hung.{Hung}
-use Rattle.elimination.specs.declared.steps.Next.{Next}
-use Rattle.elimination.specs.declared.steps.Next.the-variants as next
+use Rattle.elimination.specs.declared.steps.NextHanging.{NextHanging}
+use Rattle.elimination.specs.declared.steps.NextHanging.the-variants as next
 
 -- the code's word for what hangs next
-abbrev pub nextFound : Option Hanging → Next
+abbrev pub nextFound : Option Hanging → NextHanging
 nextFound none = next.Nothing
 nextFound (some h) = next.Hang (h .child) (h .parent)
 
 -- r is what hangs next, whatever tables have these masks
-abbrev pub NextIn : List ℕ → List ℕ → Next → Type 0
+abbrev pub NextIn : List ℕ → List ℕ → NextHanging → Type 0
 NextIn masks rs r = (S : Shape) → Masked masks S → r ≡ nextFound (nextOf S rs rs)
 
 -- the remaining tables from t on
@@ -44,15 +44,15 @@ hungUnder [] t c = false
 hungUnder (h ∷ hs) t c = (eqb c (h .child) && eqb t (h .parent)) || hungUnder hs t c
 
 -- the parents are those of what was hung
-abbrev pub ParentsOf : List ℕ → List Hanging → Type 0
-ParentsOf parents hs = (t c : ℕ) → t < 16 → c < 16 → eqb (getD parents c 0) t ≡ hungUnder hs t c
+abbrev pub ParentsAre : List ℕ → List Hanging → Type 0
+ParentsAre parents hs = (t c : ℕ) → t < 16 → c < 16 → eqb (getD parents c 0) t ≡ hungUnder hs t c
 
 -- the answer of the hanging
 abbrev pub HungAs : Hung → Elimination → Type 0
-HungAs r (rooted t hs) = (r .stuck ≡ false) × (r .table ≡ t) × ParentsOf (r .parents) hs
+HungAs r (rooted t hs) = (r .stuck ≡ false) × (r .table ≡ t) × ParentsAre (r .parents) hs
 HungAs r (stuck d) = (r .stuck ≡ true) × (r .table ≡ d)
 
--- so it is of the tables 0 to n - 1, whatever tables have these masks
+-- the answer for the tables 0 to n - 1, whatever tables have these masks
 abbrev pub HungAll : List ℕ → ℕ → Hung → Type 0
 HungAll masks n r = (S : Shape) → Masked masks S → HungAs r (eliminate S n)
 
@@ -66,6 +66,6 @@ pub record HungSoFar (masks : List ℕ) (n : ℕ) (flags : List Bool) (parents :
   pub hung : List Hanging
   pub sizes : (length flags ≡ 16) × (length parents ≡ 16)
   pub long : length (remaining n flags) ≡ suc m
-  pub named : ParentsOf parents hung
+  pub named : ParentsAre parents hung
   pub free : (t : ℕ) → t < 16 → getD flags t false ≡ true → getD parents t 0 ≡ 16
   pub ahead : (S : Shape) → Masked masks S → eliminate S n ≡ hangAll S m (remaining n flags) hung

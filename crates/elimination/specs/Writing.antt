@@ -1,14 +1,15 @@
 -- What the writing of a plan promises.
 use mathlib.Core.Path.{_≡_}
-use mathlib.Core.Bool.{Bool, true, false, _||_}
+use mathlib.Core.Bool.{Bool, false, _||_}
 use mathlib.Core.List.{List, [], _∷_, _++_}
 use Prim.Native.Nat.{ℕ, _+_, _≤_, _<_}
 use lib.ListN.{length, getD, replicate}
 use lib.Dec.{eqb}
-use Rattle.semantics.specs.Lists.{filter, onlyIf, concatMap, from}
+use Rattle.semantics.specs.Lists.{filter, concatMap, from}
+use Rattle.theory.specs.Elements.{onlyIf}
 use Rattle.semantics.specs.Plans.{encode}
 use Rattle.semantics.specs.Elimination.{Hanging, planUnder}
-use Rattle.elimination.specs.Steps.{hungUnder, ParentsOf}
+use Rattle.elimination.specs.Steps.{hungUnder, ParentsAre}
 
 -- c hangs
 abbrev pub isHung : List Hanging → ℕ → Bool
@@ -38,13 +39,13 @@ pub record Writable (parents : List ℕ) (n t at : ℕ) : Type 0 where
   pub below : t < 16
   pub hung : List Hanging
   pub once : HungOnce n hung
-  pub named : ParentsOf parents hung
+  pub named : ParentsAre parents hung
   pub fits : at + length (encode (planUnder hung t)) ≤ 31
 
 -- the plan of t is written
 abbrev pub PlanWrote : List ℕ → ℕ → ℕ → List ℕ → ℕ → List ℕ → ℕ → Type 0
 PlanWrote parents n t old at code next =
-    (hs : List Hanging) → HungOnce n hs → ParentsOf parents hs → Wrote old at (encode (planUnder hs t)) code next
+    (hs : List Hanging) → HungOnce n hs → ParentsAre parents hs → Wrote old at (encode (planUnder hs t)) code next
 
 -- an FF is written for each child below c
 pub record Joining (parents : List ℕ) (n t : ℕ) (old : List ℕ) (at : ℕ) (code : List ℕ) (next c : ℕ) : Type 0 where
@@ -58,4 +59,4 @@ plansBelow parents n t hs c =
 
 pub record Planning (parents : List ℕ) (n t : ℕ) (old : List ℕ) (at : ℕ) (code : List ℕ) (next c : ℕ) : Type 0 where
   pub within : c ≤ n
-  pub wrote : (hs : List Hanging) → HungOnce n hs → ParentsOf parents hs → Wrote old at (plansBelow parents n t hs c) code next
+  pub wrote : (hs : List Hanging) → HungOnce n hs → ParentsAre parents hs → Wrote old at (plansBelow parents n t hs c) code next

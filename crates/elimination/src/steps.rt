@@ -8,13 +8,13 @@ use crate::parents::Parent;
 use crate::parents::parent_of;
 
 // The table that hangs next and the one under which it hangs, where there is one.
-pub enum Next {
+pub enum NextHanging {
     Hang(usize, usize),
     Nothing,
 }
 
 // The lowest-numbered remaining table that can be hung.
-fn next_hanging(masks: &[u32; 16], rest: &[bool; 16], count: usize) -> Next
+fn next_hanging(masks: &[u32; 16], rest: &[bool; 16], count: usize) -> NextHanging
     requires { ⌜ count ≤ 16 ⌝ }
     ensures { λ r. ⌜ NextIn (now (masks .entry)) (remaining count (now (rest .entry))) r ⌝ }
 {
@@ -23,12 +23,12 @@ fn next_hanging(masks: &[u32; 16], rest: &[bool; 16], count: usize) -> Next
         if rest[t] {
             let parent = parent_of(masks, rest, count, t);
             if let Parent::Under(p) = parent {
-                return Next::Hang(t, p);
+                return NextHanging::Hang(t, p);
             }
         }
         t += 1;
     }
-    Next::Nothing
+    NextHanging::Nothing
 }
 
 // Where the repeated step ends: the root, or the lowest table that remains where none can be hung; and the table under which
@@ -65,11 +65,11 @@ pub(crate) fn hang_all(masks: &[u32; 16], count: usize) -> Hung
     while 0 < left {
         let next = next_hanging(masks, &rest, count);
         match next {
-            Next::Hang(child, parent) => {
+            NextHanging::Hang(child, parent) => {
                 rest[child] = false;
                 parents[child] = parent;
             }
-            Next::Nothing => {
+            NextHanging::Nothing => {
                 let table = lowest_remaining(&rest, count);
                 return Hung {
                     stuck: true,

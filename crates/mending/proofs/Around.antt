@@ -6,12 +6,14 @@ use Prim.Native.Nat.{ℕ, _<_}
 use native.Mathlib.Omega.{arith}
 use lib.Dec.{eqb}
 use borrow.Author.Tests.{eqb-true, eqb-false, ne-eqb}
-use Rattle.semantics.specs.Plans.{Plan, scan, join, encode, tables, leftmost, Small}
+use Rattle.semantics.specs.Plans.{Plan, scan, join, encode, tables, leftmost}
+use Rattle.theory.specs.Rules.{Small}
 use Rattle.semantics.specs.Lists.{any}
-use Rattle.semantics.proofs.Cases.{cases, or-cases}
-use Rattle.semantics.proofs.Lists.{any-append}
+use Rattle.theory.proofs.Cases.{cases, or-cases}
+use Rattle.theory.proofs.Lists.{any-append}
 use Rattle.semantics.specs.JoinTrees.{namesTable, hangUnder}
-use Rattle.semantics.proofs.Mending.{not-left}
+use Rattle.theory.proofs.Mending.{not-left}
+use Rattle.theory.proofs.Spelling.{encode-some}
 
 -- no bytes, or the last of them is a table number
 abbrev pub EndsInTable : List ℕ → Type 0
@@ -41,10 +43,6 @@ ends-append [] bs e f = f
 ends-append (a ∷ []) [] e f = e
 ends-append (a ∷ []) (b ∷ bs) e f = f
 ends-append (a ∷ (c ∷ xs)) bs e f = ends-append (c ∷ xs) bs e f
-
-encode-some : (p : Plan) → encode p ≡ [] → ⊥
-encode-some (scan t) e = let z : _≡_ {A = ℕ} 0 1 = cc in omega arith
-encode-some (join l r) e = let z : _≡_ {A = ℕ} 0 1 = cc in omega arith
 
 append-some : (xs bs : List ℕ) → (xs ≡ [] → ⊥) → xs ++ bs ≡ [] → ⊥
 append-some [] bs n e = n refl

@@ -9,14 +9,15 @@ use lib.ListN.{length, getD, length-append}
 use lib.Dec.{eqb, ltb}
 use borrow.Author.Tests.{eqb-true, eqb-false, eq-eqb, lt-ltb, ltb-true, ltb-false}
 use Rattle.semantics.specs.Lists.{filter, from}
-use Rattle.semantics.specs.Plans.{Plan, scan, join, encode, tables, Small}
+use Rattle.semantics.specs.Plans.{Plan, scan, join, encode, tables}
+use Rattle.theory.specs.Rules.{Small}
 use Rattle.semantics.specs.JoinTrees.{namesTable}
-use Rattle.semantics.proofs.Cases.{cases, or-cases, or-left, or-right}
-use Rattle.semantics.proofs.Lists.{any-append, filter-append}
-use Rattle.semantics.proofs.Numbers.{from-split}
+use Rattle.theory.proofs.Cases.{cases, or-cases, or-left, or-right}
+use Rattle.theory.proofs.Lists.{any-append, filter-append}
+use Rattle.theory.proofs.Numbers.{from-split}
 use Rattle.mending.specs.Places.{PlanAt, Planned}
 use Rattle.mending.specs.Parts.{Spanned, JoinIn}
-use Rattle.mending.specs.Rooting.{Distinct, seen}
+use Rattle.mending.specs.Rooting.{Distinct, bytesFrom}
 use Rattle.mending.proofs.Places.{plan-end, plan-span}
 
 -- ---- one plan stands at an index, and one at every index inside it
@@ -108,22 +109,22 @@ named-left s at l r m e i d u v a b t =
     (λ n. n ∙ sym g))
 
 -- ---- bytes gone through
-seen-from : (s : List ℕ) (at : ℕ) (p : Plan) (e : ℕ) → PlanAt s at p e → seen s at (length (encode p)) ≡ encode p
-seen-from s at (scan t) e h = ap (λ x. x ∷ []) (h .1)
-seen-from s at (join l r) e h =
+bytesFrom-encode : (s : List ℕ) (at : ℕ) (p : Plan) (e : ℕ) → PlanAt s at p e → bytesFrom s at (length (encode p)) ≡ encode p
+bytesFrom-encode s at (scan t) e h = ap (λ x. x ∷ []) (h .1)
+bytesFrom-encode s at (join l r) e h =
     let (m, u, v) = h .2 in
     let q : suc at + length (encode l) ≡ m = omega (arith, plan-end s (at + 1) l m u) in
     ap₂ (λ x xs. x ∷ xs) (h .1)
-    (ap (seen s (suc at)) (length-append (encode l) (encode r))
+    (ap (bytesFrom s (suc at)) (length-append (encode l) (encode r))
     ∙ ap (map (λ j. getD s j 0)) (from-split (suc at) (length (encode l)) (length (encode r)))
     ∙ map-append (λ j. getD s j 0) (from (suc at) (length (encode l))) (from (suc at + length (encode l)) (length (encode r)))
-    ∙ ap₂ (λ x y. x ++ y) (ap (λ i. seen s i (length (encode l))) (sym (add-one at)) ∙ seen-from s (at + 1) l m u) (ap (λ i. seen s i (length (encode r))) q ∙ seen-from s m r e v))
+    ∙ ap₂ (λ x y. x ++ y) (ap (λ i. bytesFrom s i (length (encode l))) (sym (add-one at)) ∙ bytesFrom-encode s (at + 1) l m u) (ap (λ i. bytesFrom s i (length (encode r))) q ∙ bytesFrom-encode s m r e v))
 
-pub seen-plan : (s : List ℕ) (at n : ℕ) (p : Plan) (e : ℕ) → PlanAt s at p e → e ≡ at + n → seen s at n ≡ encode p
-seen-plan s at n p e h q = let z : n ≡ length (encode p) = omega (arith, plan-end s at p e h) in ap (seen s at) z ∙ seen-from s at p e h
+pub bytesFrom-plan : (s : List ℕ) (at n : ℕ) (p : Plan) (e : ℕ) → PlanAt s at p e → e ≡ at + n → bytesFrom s at n ≡ encode p
+bytesFrom-plan s at n p e h q = let z : n ≡ length (encode p) = omega (arith, plan-end s at p e h) in ap (bytesFrom s at) z ∙ bytesFrom-encode s at p e h
 
-pub seen-more : (s : List ℕ) (at n : ℕ) → seen s at (n + 1) ≡ seen s at n ++ (getD s (at + n) 0 ∷ [])
-seen-more s at n = ap (map (λ j. getD s j 0)) (from-split at n 1) ∙ map-append (λ j. getD s j 0) (from at n) ((at + n) ∷ [])
+pub bytesFrom-more : (s : List ℕ) (at n : ℕ) → bytesFrom s at (n + 1) ≡ bytesFrom s at n ++ (getD s (at + n) 0 ∷ [])
+bytesFrom-more s at n = ap (map (λ j. getD s j 0)) (from-split at n 1) ∙ map-append (λ j. getD s j 0) (from at n) ((at + n) ∷ [])
 
 -- the bytes below 16 are the tables named
 pub names-small : (p : Plan) → Small p → filter (λ b. ltb b 16) (encode p) ≡ tables p

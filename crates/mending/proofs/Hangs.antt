@@ -5,33 +5,31 @@ use mathlib.Core.List.{List, [], _∷_, _++_, append-assoc, append-nil}
 use Prim.Native.Nat.{ℕ, zero, suc, _+_, _-_, _≤_, _<_, zero-le}
 use native.Mathlib.Omega.{arith}
 use native.Mathlib.Nat.{zero-add, add-zero}
-use native.Mathlib.Numerals.{add-one}
-use lib.ListN.{length, getD, set, take, drop, replicate, length-append, length-replicate, length-drop, List·getD-append}
-use lib.Seq.{take-all, take-length, take-suc, take-suc-set, getD-append-seam, getD-append-add, getD-drop, take-at, drop-at}
+use lib.ListN.{length, getD, set, take, drop, replicate, length-append, length-replicate, length-drop, List·getD-append, getD-replicate}
+use lib.Seq.{take-all, take-length, getD-append-seam, getD-append-add, getD-drop, take-at, drop-at}
 use lib.Dec.{eqb, ltb}
 use borrow.Author.Tests.{eqb-true, eqb-false, eq-eqb, lt-ltb, ltb-true, ltb-false}
-use Rattle.semantics.specs.Lists.{any, filter}
+use Rattle.semantics.specs.Lists.{any, filter, headOf}
 use Rattle.semantics.specs.Plans.{Plan, scan, join, encode, leftmost}
-use Rattle.semantics.specs.Enumeration.{headOf}
-use Rattle.semantics.proofs.Cases.{cases, or-cases}
+use Rattle.theory.proofs.Cases.{cases, or-cases}
 use Rattle.semantics.specs.JoinTrees.{namesTable, hangUnder}
 use Rattle.mending.proofs.Around.{EndsInTable, Around, around}
+use Rattle.words.proofs.Arrays.{take-last, take-set}
 use Rattle.mending.specs.Places.{PlanAt, Planned}
 use Rattle.mending.proofs.Places.{stands, plan-span}
-use Rattle.mending.specs.Hanging.{holdsKey, candidates}
-use Rattle.mending.specs.Hanging.{HolderAt, FirstHolder, RunStart, Spells}
+use Rattle.mending.specs.Hanging.{holdsKey, candidates, HolderAt, FirstHolder, RunStart, Spells}
 use Rattle.mending.proofs.Bytes.{found-names, names-small, plan-small}
 
 -- ---- copying
 pub copy-more : (source out before : List ℕ) (from to k : ℕ) → from + k < length source → to + k < length out → take (to + k) out ≡ before ++ take k (drop from source)
     → take (to + (k + 1)) (set out (to + k) (getD source (from + k) 0)) ≡ before ++ take (k + 1) (drop from source)
 copy-more source out before from to k a b e =
-    let z : to + (k + 1) ≡ suc (to + k) = omega arith in
+    let z : to + (k + 1) ≡ to + k + 1 = omega arith in
     ap (λ n. take n (set out (to + k) (getD source (from + k) 0))) z
-    ∙ take-suc-set out (to + k) (getD source (from + k) 0) b
+    ∙ take-set out (to + k) (getD source (from + k) 0) b
     ∙ ap (λ l. l ++ (getD source (from + k) 0 ∷ [])) e
     ∙ append-assoc before (take k (drop from source)) (getD source (from + k) 0 ∷ [])
-    ∙ ap (λ l. before ++ l) (ap (λ y. take k (drop from source) ++ (y ∷ [])) (sym (getD-drop from source k 0)) ∙ sym (take-suc (drop from source) k 0 (omega (arith, length-drop from source))) ∙ ap (λ n. take n (drop from source)) (sym (add-one k)))
+    ∙ ap (λ l. before ++ l) (ap (λ y. take k (drop from source) ++ (y ∷ [])) (sym (getD-drop from source k 0)) ∙ sym (take-last (drop from source) k 0 (omega (arith, length-drop from source))))
 
 -- ---- the first holder
 -- some byte holds the key
@@ -62,11 +60,6 @@ leading : (q : Plan) → (r : ℕ) × (rest : List ℕ) × (encode q ≡ replica
 leading (scan t) = (0, [], refl)
 leading (join l r) = let (n, rest, e) = leading l in (suc n, rest ++ encode r, ap (λ l. 255 ∷ (l ++ encode r)) e ∙ ap (λ l. 255 ∷ l) (append-assoc (replicate n 255) (leftmost l ∷ rest) (encode r)))
 
-getD-replicate : (n k : ℕ) → k < n → getD {A = ℕ} (replicate n 255) k 0 ≡ 255
-getD-replicate zero k h = absurd (omega arith)
-getD-replicate (suc n) zero h = refl
-getD-replicate (suc n) (suc k) h = getD-replicate n k (omega arith)
-
 absent-at : (x : ℕ) (bs : List ℕ) (k : ℕ) → any (eqb x) bs ≡ false → k < length bs → getD bs k 0 ≡ x → ⊥
 absent-at x [] k n h e = omega arith
 absent-at x (b ∷ bs) zero n h e = let z : _≡_ {A = ℕ} 0 1 = cc (rw (eq-eqb x b (sym e)) at n) in omega arith
@@ -88,7 +81,7 @@ module _ (own b rest behind : List ℕ) (r x : ℕ) (e : own ≡ b ++ ((replicat
       ∙ getD-append-add b ((replicate r 255 ++ (x ∷ rest)) ++ behind) k 0
       ∙ ap (λ l. getD l k 0) (append-assoc (replicate r 255) (x ∷ rest) behind)
       ∙ List·getD-append (replicate r 255) ((x ∷ rest) ++ behind) 0 k (omega (arith, length-replicate {A = ℕ} r 255))
-      ∙ getD-replicate r k h
+      ∙ getD-replicate {A = ℕ} r k 255 0 h
 
   at-table : getD own (length b + r) 0 ≡ x
   at-table =
@@ -205,7 +198,7 @@ assembled own hung out o1 o2 o3 o4 i e a b w l p q r s =
     let n : length own + length hung + 1 ≡ e + 1 + length hung + (length own - e) = omega arith in
     let m : e + 1 ≡ i + 1 + (e - i) = omega arith in
     let one : take i o1 ≡ take i own = ap (λ k. take k o1) (sym (zero-add i)) ∙ p in
-    let mark : take (i + 1) (set o1 i 255) ≡ take i own ++ (255 ∷ []) = ap (λ k. take k (set o1 i 255)) (add-one i) ∙ take-suc-set o1 i 255 (omega arith) ∙ ap (λ l. l ++ (255 ∷ [])) one in
+    let mark : take (i + 1) (set o1 i 255) ≡ take i own ++ (255 ∷ []) = take-set o1 i 255 (omega arith) ∙ ap (λ l. l ++ (255 ∷ [])) one in
     let two : take (e + 1) o2 ≡ (take i own ++ (255 ∷ [])) ++ take (e - i) (drop i own) = ap (λ k. take k o2) m ∙ q ∙ ap (λ l. l ++ take (e - i) (drop i own)) mark in
     ap (λ k. take k o4) n
     ∙ s

@@ -14,8 +14,8 @@ use Rattle.semantics.specs.Lists.{any, filter}
 use Rattle.semantics.specs.Plans.{Plan, scan, join, encode, tables}
 use Rattle.semantics.specs.Shapes.{joinAttributes, orElse}
 use Rattle.semantics.specs.Mending.{holdsAll, holders, bothHold, unmendable}
-use Rattle.semantics.proofs.Cases.{cases, true-false, or-left, or-right}
-use Rattle.semantics.proofs.Lists.{nonEmpty-filter}
+use Rattle.theory.proofs.Cases.{cases, true-false, or-left, or-right}
+use Rattle.theory.proofs.Lists.{nonEmpty-filter}
 use Rattle.mending.specs.Places.{PlanAt}
 use Rattle.mending.specs.Parts.{shapeIn, Sided}
 use Rattle.mending.specs.Hanging.{holdsKey, HolderAt, FirstHolder}

@@ -2,7 +2,7 @@ pub mod Places
 pub mod Around
 pub mod Bytes
 pub mod Sides
-pub mod Held
+pub mod Holders
 pub mod Hangs
 pub mod Lacks
 pub mod Picks

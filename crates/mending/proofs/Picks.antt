@@ -6,16 +6,16 @@ use native.Mathlib.Omega.{arith}
 use lib.ListN.{length, getD}
 use lib.Dec.{ltb}
 use borrow.Author.Tests.{lt-ltb, le-ltb, ltb-true, ltb-false}
-use Rattle.semantics.specs.Mending.{firstLeast, cheapest}
-use Rattle.semantics.proofs.Cases.{cases}
+use Rattle.semantics.specs.Mending.{firstLeast}
+use Rattle.theory.proofs.Cases.{cases}
 use Rattle.mending.specs.Rooting.{unpicked, betterOf, packed, unpacked, Picked}
-use Rattle.mending.specs.declared.rooting.Pick.{Pick}
+use Rattle.mending.specs.declared.rooting.Candidate.{Candidate}
 
-pub better-taken : (pick : Pick) (t c : ℕ) → c < pick .cost → record { place = t; cost = c } ≡ betterOf pick t c
+pub better-taken : (pick : Candidate) (t c : ℕ) → c < pick .cost → record { place = t; cost = c } ≡ betterOf pick t c
 unfolding betterOf
 better-taken pick t c h = sym (rw (lt-ltb c (pick .cost) h, betterOf) refl)
 
-pub better-left : (pick : Pick) (t c : ℕ) → pick .cost ≤ c → pick ≡ betterOf pick t c
+pub better-left : (pick : Candidate) (t c : ℕ) → pick .cost ≤ c → pick ≡ betterOf pick t c
 unfolding betterOf
 better-left pick t c h = sym (rw (le-ltb c (pick .cost) h, betterOf) refl)
 
@@ -26,7 +26,7 @@ place-back c p h = omega arith
 cost-back : (c p : ℕ) → p < 32 → (32 * c + p + 1 - 1) / 32 ≡ c
 cost-back c p h = omega arith
 
-pub packed-back : (pick : Pick) → pick .place < 32 → unpacked (packed pick) ≡ pick
+pub packed-back : (pick : Candidate) → pick .place < 32 → unpacked (packed pick) ≡ pick
 packed-back pick h = ap₂ (λ p c. record { place = p; cost = c }) (place-back (pick .cost) (pick .place) h) (cost-back (pick .cost) (pick .place) h)
 
 -- ---- one table more
@@ -43,7 +43,7 @@ last-more f x (y ∷ ys) t h =
 pub picked-none : (f : ℕ → ℕ) (s : List ℕ) → 0 < length s → Picked f s [] unpicked
 picked-none f s h = record { within = h; bounded = omega arith; none = λ e. refl; root = λ e. cc; costs = λ e. cc }
 
-module _ (f : ℕ → ℕ) (s : List ℕ) (pick : Pick) (place c : ℕ) (w : place < length s) (q : c ≡ f (getD s place 0)) (b : c < 1048576) where
+module _ (f : ℕ → ℕ) (s : List ℕ) (pick : Candidate) (place c : ℕ) (w : place < length s) (q : c ≡ f (getD s place 0)) (b : c < 1048576) where
   pub picked-more : (xs : List ℕ) → Picked f s xs pick → Picked f s (xs ++ (getD s place 0 ∷ [])) (betterOf pick place c)
   picked-more [] p =
       let d : pick .cost ≡ 1048576 = p .none refl in

@@ -6,8 +6,9 @@ use mathlib.Core.Option.{none}
 use native.Mathlib.Omega.{arith}
 use lib.ListN.{length, getD, length-append}
 use lib.Seq.{getD-append-seam}
-use Rattle.semantics.specs.Plans.{Plan, scan, join, encode, Small, misplaced, planOf}
-use Rattle.semantics.proofs.Spelling.{spelled-out}
+use Rattle.semantics.specs.Plans.{Plan, scan, join, encode, misplaced, planOf}
+use Rattle.theory.specs.Rules.{Small}
+use Rattle.theory.proofs.Spelling.{spelled-out}
 use Rattle.mending.specs.Places.{PlanAt, Planned}
 
 -- a plan ends where its code ends

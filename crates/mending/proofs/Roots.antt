@@ -3,7 +3,7 @@ use mathlib.Core.Path.{_≡_, refl, sym, ap, ap₂, _∙_, fun-ext}
 use mathlib.Core.Logic.{_⊎_, inl, inr}
 use mathlib.Core.Bool.{Bool, true, false}
 use mathlib.Core.List.{List, [], _∷_, _++_, append-nil}
-use Prim.Native.Nat.{ℕ, _+_, _*_, _-_, _≤_, _<_}
+use Prim.Native.Nat.{ℕ, _+_, _*_, _≤_, _<_}
 use native.Mathlib.Omega.{arith}
 use native.Mathlib.Nat.{add-zero}
 use lib.ListN.{length, getD, set, length-append, length-set}
@@ -13,20 +13,21 @@ use borrow.Author.Tests.{eqb-true, eqb-false, lt-ltb, le-ltb, ltb-true, ltb-fals
 use Rattle.semantics.specs.Lists.{filter, nonEmpty}
 use Rattle.semantics.specs.Plans.{Plan, scan, join, encode, tables}
 use Rattle.semantics.specs.Shapes.{Shape, joinAttributes, overJoins}
-use Rattle.semantics.specs.Mending.{cheapest, holders, chosen, cost, rightRoot, leftRoot, Mendable}
-use Rattle.semantics.proofs.Cases.{cases}
-use Rattle.semantics.proofs.Lists.{filter-append}
-use Rattle.semantics.proofs.Mending.{cost-bound, left-holds, right-holds}
+use Rattle.semantics.specs.Mending.{cheapest, holders, chosen, cost, rightRoot, leftRoot}
+use Rattle.theory.specs.Selections.{Mendable}
+use Rattle.theory.proofs.Cases.{cases}
+use Rattle.theory.proofs.Lists.{filter-append}
+use Rattle.theory.proofs.Mending.{cost-bound, left-holds, right-holds}
 use Rattle.mending.specs.Places.{PlanAt}
 use Rattle.mending.specs.Parts.{shapeIn, JoinIn, sidePlan, choose, slotOf, Sided}
 use Rattle.mending.specs.Hanging.{holdsKey, heldBy, candidates}
-use Rattle.mending.specs.Rooting.{unpicked, betterOf, packed, unpacked, rowsAdded, added, sideCost, sideRoot, RootOf, Kept, Buildable, MendableAt, seen, Searched}
+use Rattle.mending.specs.Rooting.{unpicked, betterOf, packed, unpacked, rowsAdded, added, sideCost, sideRoot, RootPicked, RootsRemembered, Buildable, MendableAt, bytesFrom, SideSearched}
 use Rattle.mending.specs.declared.parts.Side.{Side}
-use Rattle.mending.specs.declared.rooting.Pick.{Pick}
+use Rattle.mending.specs.declared.rooting.Candidate.{Candidate}
 use Rattle.mending.proofs.Places.{plan-end, plan-span}
-use Rattle.mending.proofs.Bytes.{plan-small, seen-plan, seen-more, names-small}
+use Rattle.mending.proofs.Bytes.{plan-small, bytesFrom-plan, bytesFrom-more, names-small}
 use Rattle.mending.proofs.Sides.{key-holds, side-stands}
-use Rattle.mending.proofs.Held.{held-table, held-small, held-key}
+use Rattle.mending.proofs.Holders.{held-table, held-small, held-key}
 use Rattle.mending.proofs.Picks.{packed-back, picked-none, picked-more}
 
 -- ---- a side's root is the definitions'
@@ -112,31 +113,31 @@ module _ (s masks rows : List ℕ) (at : ℕ) (right : Bool) (side : Side) (f : 
   stands-at : (x y : Plan) (m e : ℕ) → PlanAt s (at + 1) x m → PlanAt s m y e → PlanAt s (side .start) (sidePlan right x y) (side .end)
   stands-at x y m e u v = let q = f x y m e u v in rw (q .start, q .end) (side-stands s at right x y m e u v)
 
-  pub search-begun : Searched s masks rows at right (side .start) (side .key) 0 unpicked
+  pub search-begun : SideSearched s masks rows at right (side .start) (side .key) 0 unpicked
   search-begun x y m e u v = let b = plan-span s m y e v in unfold candidates in picked-none (sideCost (shapeIn masks rows) right (sidePlan right x y)) s (omega arith)
 
   -- a byte more
-  more-is : (n : ℕ) → candidates masks (side .key) (seen s (side .start) (n + 1)) ≡ candidates masks (side .key) (seen s (side .start) n) ++ candidates masks (side .key) (getD s (side .start + n) 0 ∷ [])
-  more-is n = ap (candidates masks (side .key)) (seen-more s (side .start) n) ∙ candidates-more masks (side .key) (seen s (side .start) n) (getD s (side .start + n) 0)
+  more-is : (n : ℕ) → candidates masks (side .key) (bytesFrom s (side .start) (n + 1)) ≡ candidates masks (side .key) (bytesFrom s (side .start) n) ++ candidates masks (side .key) (getD s (side .start + n) 0 ∷ [])
+  more-is n = ap (candidates masks (side .key)) (bytesFrom-more s (side .start) n) ∙ candidates-more masks (side .key) (bytesFrom s (side .start) n) (getD s (side .start + n) 0)
 
-  pub search-passed : (n : ℕ) (pick : Pick) → heldBy masks (side .key) (getD s (side .start + n) 0) ≡ false
-      → Searched s masks rows at right (side .start) (side .key) n pick → Searched s masks rows at right (side .start) (side .key) (n + 1) pick
+  pub search-passed : (n : ℕ) (pick : Candidate) → heldBy masks (side .key) (getD s (side .start + n) 0) ≡ false
+      → SideSearched s masks rows at right (side .start) (side .key) n pick → SideSearched s masks rows at right (side .start) (side .key) (n + 1) pick
   search-passed n pick h p x y m e u v =
-      rw (more-is n ∙ ap (λ l. candidates masks (side .key) (seen s (side .start) n) ++ l) (candidate-not masks (side .key) [] (getD s (side .start + n) 0) h) ∙ append-nil (candidates masks (side .key) (seen s (side .start) n)))
+      rw (more-is n ∙ ap (λ l. candidates masks (side .key) (bytesFrom s (side .start) n) ++ l) (candidate-not masks (side .key) [] (getD s (side .start + n) 0) h) ∙ append-nil (candidates masks (side .key) (bytesFrom s (side .start) n)))
       (p x y m e u v)
 
-  pub search-taken : (n : ℕ) (pick : Pick) (c more : ℕ) → heldBy masks (side .key) (getD s (side .start + n) 0) ≡ true → side .start + n < side .end
+  pub search-taken : (n : ℕ) (pick : Candidate) (c more : ℕ) → heldBy masks (side .key) (getD s (side .start + n) 0) ≡ true → side .start + n < side .end
       → ((p : Plan) (e : ℕ) → PlanAt s (side .start) p e → c ≡ cost (shapeIn masks rows) p (getD s (side .start + n) 0)) → more ≡ rowsAdded rows right (getD s (side .start + n) 0)
-      → Searched s masks rows at right (side .start) (side .key) n pick → Searched s masks rows at right (side .start) (side .key) (n + 1) (betterOf pick (side .start + n) (c + more))
+      → SideSearched s masks rows at right (side .start) (side .key) n pick → SideSearched s masks rows at right (side .start) (side .key) (n + 1) (betterOf pick (side .start + n) (c + more))
   search-taken n pick c more h b cs adds p x y m e u v =
       let t : ℕ = getD s (side .start + n) 0 in
       let st = stands-at x y m e u v in
       let is : c ≡ cost (shapeIn masks rows) (sidePlan right x y) t = cs (sidePlan right x y) (side .end) st in
-      rw (more-is n ∙ ap (λ l. candidates masks (side .key) (seen s (side .start) n) ++ l) (candidate-is masks (side .key) [] t h))
+      rw (more-is n ∙ ap (λ l. candidates masks (side .key) (bytesFrom s (side .start) n) ++ l) (candidate-is masks (side .key) [] t h))
       (picked-more (sideCost (shapeIn masks rows) right (sidePlan right x y)) s pick (side .start + n) (c + more) (omega (arith, side-bounds))
       (ap₂ (λ a b. a + b) is (adds ∙ rows-added masks rows right t))
       (omega (arith, cost-small s masks rows short few (side .start) (sidePlan right x y) (side .end) t st, added-small s masks rows short few right t, rows-added masks rows right t))
-      (candidates masks (side .key) (seen s (side .start) n)) (p x y m e u v))
+      (candidates masks (side .key) (bytesFrom s (side .start) n)) (p x y m e u v))
 
   -- the sum that the code forms
   pub sum-small : (n c more : ℕ) → ((p : Plan) (e : ℕ) → PlanAt s (side .start) p e → c ≡ cost (shapeIn masks rows) p (getD s (side .start + n) 0)) → more ≡ rowsAdded rows right (getD s (side .start + n) 0) → c + more ≤ 131072
@@ -145,26 +146,26 @@ module _ (s masks rows : List ℕ) (at : ℕ) (right : Bool) (side : Side) (f : 
       omega (arith, cs (sidePlan right (j .left) (j .right)) (side .end) st, cost-small s masks rows short few (side .start) (sidePlan right (j .left) (j .right)) (side .end) (getD s (side .start + n) 0) st, rows-added masks rows right (getD s (side .start + n) 0), added-small s masks rows short few right (getD s (side .start + n) 0))
 
   candidates-holders : (x y : Plan) (m e : ℕ) → PlanAt s (at + 1) x m → PlanAt s m y e → (n : ℕ) → side .start + n ≡ side .end
-      → candidates masks (side .key) (seen s (side .start) n) ≡ holders (shapeIn masks rows) (joinAttributes (shapeIn masks rows) x y) (sidePlan right x y)
+      → candidates masks (side .key) (bytesFrom s (side .start) n) ≡ holders (shapeIn masks rows) (joinAttributes (shapeIn masks rows) x y) (sidePlan right x y)
   unfolding candidates holders
   candidates-holders x y m e u v n z =
       let st = stands-at x y m e u v in
-      ap (λ bs. filter (λ t. holdsKey (side .key) (getD masks t 0)) (filter (λ b. ltb b 16) bs)) (seen-plan s (side .start) n (sidePlan right x y) (side .end) st (sym z))
+      ap (λ bs. filter (λ t. holdsKey (side .key) (getD masks t 0)) (filter (λ b. ltb b 16) bs)) (bytesFrom-plan s (side .start) n (sidePlan right x y) (side .end) st (sym z))
       ∙ ap (filter (λ t. holdsKey (side .key) (getD masks t 0))) (names-small (sidePlan right x y) (plan-small s (side .start) (sidePlan right x y) (side .end) st))
       ∙ ap (λ g. filter g (tables (sidePlan right x y))) (fun-ext (key-holds masks rows x y (side .key) ((f x y m e u v) .key)))
 
-  pub search-done : (n : ℕ) (pick : Pick) → side .end ≤ side .start + n → side .start + n ≤ side .end → MendableAt s masks rows at → Searched s masks rows at right (side .start) (side .key) n pick
-      → (x y : Plan) (m e : ℕ) → PlanAt s (at + 1) x m → PlanAt s m y e → RootOf s (shapeIn masks rows) right x y pick
+  pub search-done : (n : ℕ) (pick : Candidate) → side .end ≤ side .start + n → side .start + n ≤ side .end → MendableAt s masks rows at → SideSearched s masks rows at right (side .start) (side .key) n pick
+      → (x y : Plan) (m e : ℕ) → PlanAt s (at + 1) x m → PlanAt s m y e → RootPicked s (shapeIn masks rows) right x y pick
   unfolding sideRoot
   search-done n pick a b ok p x y m e u v =
       let z = candidates-holders x y m e u v n (omega arith) in
       let q = p x y m e u v in
-      let some : nonEmpty (candidates masks (side .key) (seen s (side .start) n)) ≡ true = rw z (side-holders masks rows right x y (ok x y m e u v)) in
+      let some : nonEmpty (candidates masks (side .key) (bytesFrom s (side .start) n)) ≡ true = rw z (side-holders masks rows right x y (ok x y m e u v)) in
       let F = sideCost (shapeIn masks rows) right (sidePlan right x y) in
       record { within = q .within; root = q .root some ∙ ap (cheapest F) z; costs = q .costs some ∙ ap (λ l. F (cheapest F l)) z }
 
   -- a pick fits its word
-  pub pick-fits : (n : ℕ) (pick : Pick) → Searched s masks rows at right (side .start) (side .key) n pick → (pick .cost ≤ 1048576) × (pick .place < 32)
+  pub pick-fits : (n : ℕ) (pick : Candidate) → SideSearched s masks rows at right (side .start) (side .key) n pick → (pick .cost ≤ 1048576) × (pick .place < 32)
   pick-fits n pick p = let q = p (j .left) (j .right) (j .middle) (j .end) (j .lefts) (j .rights) in (q .bounded, omega (arith, q .within))
 
   side-mendable : (right : Bool) (l r : Plan) → Mendable (shapeIn masks rows) (join l r) → Mendable (shapeIn masks rows) (sidePlan right l r)
@@ -185,8 +186,8 @@ module _ (s masks rows : List ℕ) (at : ℕ) (right : Bool) (side : Side) (f : 
       }
 
   -- ---- remembering
-  pub kept-more : (best : List ℕ) (pick : Pick) (word : ℕ) → Kept s masks rows best → word ≡ packed pick
-      → ((x y : Plan) (m e : ℕ) → PlanAt s (at + 1) x m → PlanAt s m y e → RootOf s (shapeIn masks rows) right x y pick) → Kept s masks rows (set best (side .slot) word)
+  pub kept-more : (best : List ℕ) (pick : Candidate) (word : ℕ) → RootsRemembered s masks rows best → word ≡ packed pick
+      → ((x y : Plan) (m e : ℕ) → PlanAt s (at + 1) x m → PlanAt s m y e → RootPicked s (shapeIn masks rows) right x y pick) → RootsRemembered s masks rows (set best (side .slot) word)
   kept-more best pick word k is g =
       let b = side-bounds in
       let w : pick .place < 32 = omega (arith, (g (j .left) (j .right) (j .middle) (j .end) (j .lefts) (j .rights)) .within) in
@@ -208,12 +209,12 @@ module _ (s masks rows : List ℕ) (at : ℕ) (right : Bool) (side : Side) (f : 
       slot-same false true i j e = absurd (omega arith)
       slot-same false false i j e = (refl, omega arith)
 
-  pub kept-known : (best : List ℕ) → Kept s masks rows best → 0 < getD best (side .slot) 0
-      → (x y : Plan) (m e : ℕ) → PlanAt s (at + 1) x m → PlanAt s m y e → RootOf s (shapeIn masks rows) right x y (unpacked (getD best (side .slot) 0))
+  pub kept-known : (best : List ℕ) → RootsRemembered s masks rows best → 0 < getD best (side .slot) 0
+      → (x y : Plan) (m e : ℕ) → PlanAt s (at + 1) x m → PlanAt s m y e → RootPicked s (shapeIn masks rows) right x y (unpacked (getD best (side .slot) 0))
   kept-known best k h x y m e u v =
       let q = (f x y m e u v) .slot in
       go x y (getD best (side .slot) 0) h (rw (← q) at (k .roots at right x y m e u v))
     where
-      go : (x y : Plan) (n : ℕ) → 0 < n → (n ≡ 0) ⊎ RootOf s (shapeIn masks rows) right x y (unpacked n) → RootOf s (shapeIn masks rows) right x y (unpacked n)
+      go : (x y : Plan) (n : ℕ) → 0 < n → (n ≡ 0) ⊎ RootPicked s (shapeIn masks rows) right x y (unpacked n) → RootPicked s (shapeIn masks rows) right x y (unpacked n)
       go x y n h (inl z) = absurd (omega arith)
       go x y n h (inr z) = z

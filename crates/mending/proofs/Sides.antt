@@ -1,6 +1,6 @@
 -- The parts of a plan, one after the other; the sides of a join, and a join taken apart for a root.
 use mathlib.Core.Path.{_≡_, refl, sym, ap, ap₂, _∙_, fun-ext}
-use mathlib.Core.Bool.{Bool, true, false, _&&_, _||_, or-false}
+use mathlib.Core.Bool.{Bool, true, false, _&&_, or-false}
 use mathlib.Core.List.{List}
 use Prim.Native.Nat.{ℕ, _+_, _*_, _-_, _≤_, _<_}
 use native.Mathlib.Omega.{arith}
@@ -14,17 +14,16 @@ use Rattle.semantics.specs.Files.{hasBit}
 use Rattle.semantics.specs.Plans.{Plan, scan, join, tables}
 use Rattle.semantics.specs.Shapes.{attributes, holds, shared, joinAttributes}
 use Rattle.semantics.specs.Mending.{holdsAll}
-use Rattle.semantics.proofs.Cases.{cases}
-use Rattle.semantics.proofs.Lists.{any-append}
-use Rattle.words.proofs.Masks.{hasBit-and, hasBit-or, covers}
+use Rattle.theory.proofs.Cases.{cases}
+use Rattle.words.proofs.Masks.{hasBit-and, union-any, covers}
 use Rattle.mending.specs.Places.{PlanAt}
-use Rattle.mending.specs.Parts.{shapeIn, Words, Parted, partIn, Surveyed, JoinIn, sidePlan, choose, KeyOf, Sided, SplitOf}
+use Rattle.mending.specs.Parts.{shapeIn, MaskWords, Parted, partIn, Surveyed, JoinIn, sidePlan, choose, JoinKey, Sided, SplitAt}
 use Rattle.mending.specs.Hanging.{holdsKey}
 use Rattle.mending.specs.declared.parts.Part.{Part}
 use Rattle.mending.proofs.Places.{plan-span}
 
 -- ---- a plan and its parts
-pub one-table : (masks s : List ℕ) (at : ℕ) → Words masks → (getD s at 0 ≡ 255 → ⊥) → (x : ℕ) → x ≡ getD s at 0 → (p : Plan) (e : ℕ) → PlanAt s at p e
+pub one-table : (masks s : List ℕ) (at : ℕ) → MaskWords masks → (getD s at 0 ≡ 255 → ⊥) → (x : ℕ) → x ≡ getD s at 0 → (p : Plan) (e : ℕ) → PlanAt s at p e
     → Parted masks p e (record { attributes = getD masks x 0; next = at + 1 })
 one-table masks s at w n x q (join l r) e h = absurd (n (h .1))
 one-table masks s at w n x q (scan t) e h =
@@ -40,7 +39,7 @@ two-plans masks s at q l r f g (join a b) e h =
     record {
       next = pr .next;
       word = or-lt 32 (l .attributes) (r .attributes) (pl .word) (pr .word);
-      attributes = λ i. hasBit-or (l .attributes) (r .attributes) i ∙ ap₂ (λ x y. x || y) (pl .attributes i) (pr .attributes i) ∙ sym (any-append (λ t. hasBit (getD masks t 0) i) (tables a) (tables b));
+      attributes = λ i. union-any (λ t. hasBit (getD masks t 0) i) (tables a) (tables b) (l .attributes) (r .attributes) i (pl .attributes i) (pr .attributes i);
     }
 
 -- ---- the survey, index by index
@@ -77,7 +76,7 @@ module _ (s masks ends sets : List ℕ) (at : ℕ) (q : Surveyed s masks ends se
   end-is : getD ends (getD ends (at + 1) 0) 0 ≡ e
   end-is = ap (λ i. getD ends i 0) middle-is ∙ (q m y e v) .next
 
-  key-of : KeyOf masks x y (bitAnd (getD sets (at + 1) 0) (getD sets (getD ends (at + 1) 0) 0))
+  key-of : JoinKey masks x y (bitAnd (getD sets (at + 1) 0) (getD sets (getD ends (at + 1) 0) 0))
   key-of =
       rw middle-is
       (record {
@@ -96,7 +95,7 @@ module _ (s masks ends sets : List ℕ) (at : ℕ) (q : Surveyed s masks ends se
   join-bounds = let a = plan-span s (at + 1) x m u in let b = plan-span s m y e v in omega (arith, middle-is, end-is)
 
   pub split-left : (place : ℕ) → place < getD ends (at + 1) 0
-      → SplitOf masks at place x y m e (record { left = true; own = at + 1; size = getD ends (at + 1) 0 - (at + 1); other = getD ends (at + 1) 0; rest = getD ends (getD ends (at + 1) 0) 0 - getD ends (at + 1) 0; key = bitAnd (getD sets (at + 1) 0) (getD sets (getD ends (at + 1) 0) 0) })
+      → SplitAt masks at place x y m e (record { left = true; own = at + 1; size = getD ends (at + 1) 0 - (at + 1); other = getD ends (at + 1) 0; rest = getD ends (getD ends (at + 1) 0) 0 - getD ends (at + 1) 0; key = bitAnd (getD sets (at + 1) 0) (getD sets (getD ends (at + 1) 0) 0) })
   split-left place h =
       let b = join-bounds in
       record {
@@ -109,7 +108,7 @@ module _ (s masks ends sets : List ℕ) (at : ℕ) (q : Surveyed s masks ends se
       }
 
   pub split-right : (place : ℕ) → getD ends (at + 1) 0 ≤ place
-      → SplitOf masks at place x y m e (record { left = false; own = getD ends (at + 1) 0; size = getD ends (getD ends (at + 1) 0) 0 - getD ends (at + 1) 0; other = at + 1; rest = getD ends (at + 1) 0 - (at + 1); key = bitAnd (getD sets (at + 1) 0) (getD sets (getD ends (at + 1) 0) 0) })
+      → SplitAt masks at place x y m e (record { left = false; own = getD ends (at + 1) 0; size = getD ends (getD ends (at + 1) 0) 0 - getD ends (at + 1) 0; other = at + 1; rest = getD ends (at + 1) 0 - (at + 1); key = bitAnd (getD sets (at + 1) 0) (getD sets (getD ends (at + 1) 0) 0) })
   split-right place h =
       let b = join-bounds in
       record {
@@ -126,7 +125,7 @@ pub surveyed-bounds : (s masks ends sets : List ℕ) (at : ℕ) → Surveyed s m
 surveyed-bounds s masks ends sets at q j = join-bounds s masks ends sets at q (j .left) (j .right) (j .middle) (j .end) (j .lefts) (j .rights)
 
 -- ---- the key's holders are those of the join attributes
-pub key-holds : (masks rows : List ℕ) (x y : Plan) (key : ℕ) → KeyOf masks x y key → (t : ℕ) → holdsKey key (getD masks t 0) ≡ holdsAll (shapeIn masks rows) (joinAttributes (shapeIn masks rows) x y) t
+pub key-holds : (masks rows : List ℕ) (x y : Plan) (key : ℕ) → JoinKey masks x y key → (t : ℕ) → holdsKey key (getD masks t 0) ≡ holdsAll (shapeIn masks rows) (joinAttributes (shapeIn masks rows) x y) t
 unfolding holdsKey holdsAll joinAttributes shared holds shapeIn
 key-holds masks rows x y key q t = covers key (getD masks t 0) (q .word) ∙ ap (λ g. all (hasBit (getD masks t 0)) (filter g attributes)) (fun-ext (λ a. q .bits a))
 

@@ -5,26 +5,27 @@ use Prim.Native.Nat.{ℕ, _+_, _-_, _≤_, _<_}
 use native.Mathlib.Omega.{arith}
 use lib.ListN.{length, getD, set, take}
 use lib.Seq.{length-take-le}
-use Rattle.semantics.specs.Lists.{any, filter}
-use Rattle.semantics.specs.Plans.{Plan, scan, join, encode, tables, Small}
-use Rattle.semantics.specs.Shapes.{joinAttributes, WellBehaved}
-use Rattle.semantics.specs.Enumeration.{headOf}
+use Rattle.semantics.specs.Lists.{any, filter, headOf}
+use Rattle.semantics.specs.Plans.{Plan, scan, join, encode, tables}
+use Rattle.theory.specs.Rules.{Small, WellBehaved}
+use Rattle.semantics.specs.Shapes.{joinAttributes}
 use Rattle.semantics.specs.JoinTrees.{hangUnder}
 use Rattle.semantics.specs.Mending.{holdsAll, holders, topmost, hang, treeFor}
-use Rattle.semantics.proofs.Permutations.{permutation-any, permutation-each}
-use Rattle.semantics.proofs.Mending.{treeFor-tables, treeFor-wellBehaved}
-use Rattle.semantics.proofs.Mendable.{small-each, each-small}
-use Rattle.semantics.proofs.Topmost.{topmost-first, joinAttributes-below}
+use Rattle.theory.proofs.Permutations.{permutation-any, permutation-each}
+use Rattle.theory.proofs.Mending.{treeFor-tables, treeFor-wellBehaved}
+use Rattle.theory.proofs.Mendable.{small-each, each-small}
+use Rattle.theory.proofs.Topmost.{topmost-first, joinAttributes-below}
+use Rattle.words.proofs.Arrays.{take-set}
 use Rattle.mending.specs.Places.{PlanAt}
 use Rattle.mending.specs.Parts.{shapeIn}
 use Rattle.mending.specs.Hanging.{holdsKey, candidates, Spells, Hangable, HungBytes}
-use Rattle.mending.specs.Rooting.{RootOf}
+use Rattle.mending.specs.Rooting.{RootPicked}
 use Rattle.mending.specs.Writing.{Spelt}
 use Rattle.mending.specs.declared.parts.Split.{Split}
-use Rattle.mending.specs.declared.rooting.Pick.{Pick}
+use Rattle.mending.specs.declared.rooting.Candidate.{Candidate}
 use Rattle.mending.proofs.Places.{plan-span}
 use Rattle.mending.proofs.Bytes.{plan-unique, plan-small, names-small}
-use Rattle.mending.proofs.Trees.{Taken, picked-is, joined}
+use Rattle.mending.proofs.Trees.{SplitSides, picked-is, joined}
 
 tree-small : (masks rows : List ℕ) (p : Plan) (x : ℕ) → Small p → Small (treeFor (shapeIn masks rows) p x)
 tree-small masks rows p x h = each-small (treeFor (shapeIn masks rows) p x) (permutation-each (λ t. t < 16) (treeFor-tables (shapeIn masks rows) p x) (small-each p h))
@@ -44,7 +45,7 @@ first-topmost masks rows l r p key k h w =
     ap headOf (candidates-tree masks rows (joinAttributes (shapeIn masks rows) l r) key p k h)
     ∙ sym (topmost-first (shapeIn masks rows) (joinAttributes (shapeIn masks rows) l r) (joinAttributes-below (shapeIn masks rows) l r) p w)
 
-module _ (s masks rows : List ℕ) (at place : ℕ) (split : Split) (x : Taken s masks rows at place split) (w : getD s place 0 < 16) (short : length s ≤ 31) where
+module _ (s masks rows : List ℕ) (at place : ℕ) (split : Split) (x : SplitSides s masks rows at place split) (w : getD s place 0 < 16) (short : length s ≤ 31) where
   pub sizes-fit : (split .size + split .rest + 1 ≤ 31) × (split .size ≤ 31) × (split .rest ≤ 31)
   sizes-fit = let a = plan-span s (x .middle) (x .right) (x .end) (x .rights) in omega (arith, x .room)
 
@@ -74,7 +75,7 @@ module _ (s masks rows : List ℕ) (at place : ℕ) (split : Split) (x : Taken s
   pub hangable : (tree : List ℕ) → Spelt s masks rows (split .own) place tree → Hangable masks (split .key) (take (split .size) tree)
   hangable tree f = record { plan = treeFor (shapeIn masks rows) (x .own) (getD s place 0); spells = own-spells tree f }
 
-  module _ (pick : Pick) (picks : (l r : Plan) (m e : ℕ) → PlanAt s (at + 1) l m → PlanAt s m r e → RootOf s (shapeIn masks rows) (split .left) l r pick) where
+  module _ (pick : Candidate) (picks : (l r : Plan) (m e : ℕ) → PlanAt s (at + 1) l m → PlanAt s m r e → RootPicked s (shapeIn masks rows) (split .left) l r pick) where
     other-bytes : (hung : List ℕ) → Spelt s masks rows (split .other) (pick .place) hung → take (split .rest) hung ≡ encode (treeFor (shapeIn masks rows) (x .other) (x .chosen))
     other-bytes hung f =
         let n : split .other + split .rest - split .other ≡ split .rest = omega arith in
@@ -103,8 +104,4 @@ pub table-spelt : (s masks rows : List ℕ) (at place : ℕ) (out : List ℕ) �
 table-spelt s masks rows at place out n w (join l r) e h = absurd (n (h .1))
 table-spelt s masks rows at place out n w (scan t) e h =
     let z : e - at ≡ 1 = omega (arith, h .3) in
-    ap (λ k. take k (set out 0 (getD s at 0))) z ∙ one out w ∙ ap (λ b. b ∷ []) (h .1)
-  where
-    one : (out : List ℕ) → length out ≡ 31 → take 1 (set out 0 (getD s at 0)) ≡ getD s at 0 ∷ []
-    one [] w = absurd (omega arith)
-    one (b ∷ bs) w = refl
+    ap (λ k. take k (set out 0 (getD s at 0))) z ∙ take-set out 0 (getD s at 0) (omega (arith, w)) ∙ ap (λ b. b ∷ []) (h .1)

@@ -10,23 +10,24 @@ use Rattle.semantics.specs.Lists.{any}
 use Rattle.semantics.specs.Plans.{Plan, scan, join, tables}
 use Rattle.semantics.specs.Shapes.{joinAttributes}
 use Rattle.semantics.specs.JoinTrees.{namesTable}
-use Rattle.semantics.specs.Mending.{holdsAll, holders, hang, cost, treeFor, Mendable, rightRoot, leftRoot}
-use Rattle.semantics.proofs.Cases.{cases}
-use Rattle.semantics.proofs.Lists.{nonEmpty-filter}
-use Rattle.semantics.proofs.Mending.{treeFor-left, treeFor-right, cost-left, cost-right, left-holds, right-holds, rightRoot-holder, leftRoot-holder}
+use Rattle.semantics.specs.Mending.{holdsAll, holders, hang, cost, treeFor, rightRoot, leftRoot}
+use Rattle.theory.specs.Selections.{Mendable}
+use Rattle.theory.proofs.Cases.{cases}
+use Rattle.theory.proofs.Lists.{nonEmpty-filter}
+use Rattle.theory.proofs.Mending.{treeFor-left, treeFor-right, cost-left, cost-right, left-holds, right-holds, rightRoot-holder, leftRoot-holder}
 use Rattle.mending.specs.Places.{PlanAt, Planned}
-use Rattle.mending.specs.Parts.{shapeIn, JoinIn, sidePlan, SplitOf}
+use Rattle.mending.specs.Parts.{shapeIn, JoinIn, sidePlan, SplitAt}
 use Rattle.mending.specs.Hanging.{holdsKey}
-use Rattle.mending.specs.Rooting.{added, sideRoot, RootOf, Distinct, Buildable, MendableAt}
+use Rattle.mending.specs.Rooting.{added, sideRoot, RootPicked, Distinct, Buildable, MendableAt}
 use Rattle.mending.specs.declared.parts.Split.{Split}
-use Rattle.mending.specs.declared.rooting.Pick.{Pick}
+use Rattle.mending.specs.declared.rooting.Candidate.{Candidate}
 use Rattle.mending.proofs.Places.{plan-span}
 use Rattle.mending.proofs.Bytes.{plan-unique, planned-join, found-names, named-small, named-inside, named-left}
 use Rattle.mending.proofs.Sides.{key-holds}
 use Rattle.mending.proofs.Roots.{sideRoot-right, sideRoot-left, cost-small, added-small}
 
 -- the side with the root, and the other with its chosen root
-pub record Taken (s masks rows : List ℕ) (at place : ℕ) (split : Split) : Type 0 where
+pub record SplitSides (s masks rows : List ℕ) (at place : ℕ) (split : Split) : Type 0 where
   pub left : Plan
   pub right : Plan
   pub middle : ℕ
@@ -54,7 +55,7 @@ pub record Taken (s masks rows : List ℕ) (at place : ℕ) (split : Split) : Ty
   pub later : (at < split .own) × (at < split .other)
 
 module _ (s masks rows : List ℕ) (at place : ℕ) (split : Split) (l r : Plan) (m e : ℕ) (u : PlanAt s (at + 1) l m) (v : PlanAt s m r e) (ok : Mendable (shapeIn masks rows) (join l r))
-    (d : Distinct s) (w : getD s place 0 < 16) (after : at < place) (before : place < e) (q : SplitOf masks at place l r m e split) where
+    (d : Distinct s) (w : getD s place 0 < 16) (after : at < place) (before : place < e) (q : SplitAt masks at place l r m e split) where
   left-any : any (holdsAll (shapeIn masks rows) (joinAttributes (shapeIn masks rows) l r)) (tables l) ≡ true
   left-any = sym (nonEmpty-filter (holdsAll (shapeIn masks rows) (joinAttributes (shapeIn masks rows) l r)) (tables l)) ∙ (unfold holders in left-holds (shapeIn masks rows) l r (ok .0))
 
@@ -64,7 +65,7 @@ module _ (s masks rows : List ℕ) (at place : ℕ) (split : Split) (l r : Plan)
   split-named : namesTable l (getD s place 0) ≡ split .left
   split-named = named-left s at l r m e place d u v after before w ∙ sym (q .left)
 
-  taken-left : split .left ≡ true → Taken s masks rows at place split
+  taken-left : split .left ≡ true → SplitSides s masks rows at place split
   taken-left h =
       let own : split .own ≡ at + 1 = rw h at (q .own) in
       let other : split .other ≡ m = rw h at (q .other) in
@@ -100,7 +101,7 @@ module _ (s masks rows : List ℕ) (at place : ℕ) (split : Split) (l r : Plan)
         later = let a = plan-span s (at + 1) l m u in omega arith;
       }
 
-  taken-right : split .left ≡ false → Taken s masks rows at place split
+  taken-right : split .left ≡ false → SplitSides s masks rows at place split
   taken-right h =
       let own : split .own ≡ m = rw h at (q .own) in
       let other : split .other ≡ at + 1 = rw h at (q .other) in
@@ -143,10 +144,10 @@ pub buildable-join : (s masks rows : List ℕ) (at place : ℕ) → getD s at 0 
 buildable-join s masks rows at place k b = planned-join s at k (buildable-planned s masks rows at place b)
 
 pub taken : (s masks rows : List ℕ) (at place : ℕ) (split : Split) → getD s at 0 ≡ 255 → Distinct s → Buildable s masks rows at place
-    → ((x y : Plan) (m e : ℕ) → PlanAt s (at + 1) x m → PlanAt s m y e → SplitOf masks at place x y m e split) → Taken s masks rows at place split
+    → ((x y : Plan) (m e : ℕ) → PlanAt s (at + 1) x m → PlanAt s m y e → SplitAt masks at place x y m e split) → SplitSides s masks rows at place split
 taken s masks rows at place split k d b f = go (b .plan) (b .end) (b .stands) (b .mendable) (b .to)
   where
-    go : (p : Plan) (e : ℕ) → PlanAt s at p e → Mendable (shapeIn masks rows) p → place < e → Taken s masks rows at place split
+    go : (p : Plan) (e : ℕ) → PlanAt s at p e → Mendable (shapeIn masks rows) p → place < e → SplitSides s masks rows at place split
     go (scan t) e h ok lt = let a : getD s at 0 ≡ t = h .1 in let c : t < 16 = h .2 in absurd (omega arith)
     go (join l r) e h ok lt =
         let (m, u, v) = h .2 in
@@ -154,7 +155,7 @@ taken s masks rows at place split k d b f = go (b .plan) (b .end) (b .stands) (b
         let after : at < place = omega (arith, b .from) in
         cases (split .left) (λ g. taken-left s masks rows at place split l r m e u v ok d (b .table) after lt (f l r m e u v) g) (λ g. taken-right s masks rows at place split l r m e u v ok d (b .table) after lt (f l r m e u v) g)
 
-module _ (s masks rows : List ℕ) (at place : ℕ) (split : Split) (x : Taken s masks rows at place split) (w : getD s place 0 < 16) where
+module _ (s masks rows : List ℕ) (at place : ℕ) (split : Split) (x : SplitSides s masks rows at place split) (w : getD s place 0 < 16) where
   pub own-buildable : Buildable s masks rows (split .own) place
   own-buildable = record { plan = x .own; end = split .own + split .size; stands = x .ownStands; mendable = x .ownMendable; from = x .ownPlace .0; to = x .ownPlace .1; table = w }
 
@@ -175,8 +176,8 @@ module _ (s masks rows : List ℕ) (at place : ℕ) (split : Split) (x : Taken s
       let (c, d) = plan-unique s m r (x .right) e (x .end) v (rw b (x .rights)) in
       rw (a, c) (x .mendable)
 
-  module _ (pick : Pick) (picks : (l r : Plan) (m e : ℕ) → PlanAt s (at + 1) l m → PlanAt s m r e → RootOf s (shapeIn masks rows) (split .left) l r pick) where
-    abbrev picked : RootOf s (shapeIn masks rows) (split .left) (x .left) (x .right) pick
+  module _ (pick : Candidate) (picks : (l r : Plan) (m e : ℕ) → PlanAt s (at + 1) l m → PlanAt s m r e → RootPicked s (shapeIn masks rows) (split .left) l r pick) where
+    abbrev picked : RootPicked s (shapeIn masks rows) (split .left) (x .left) (x .right) pick
     picked = picks (x .left) (x .right) (x .middle) (x .end) (x .lefts) (x .rights)
 
     pub picked-is : getD s (pick .place) 0 ≡ x .chosen

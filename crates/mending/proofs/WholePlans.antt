@@ -3,7 +3,7 @@ use mathlib.Core.Path.{_≡_, refl, sym, ap, _∙_}
 use mathlib.Core.Logic.{inl}
 use mathlib.Core.Option.{none, some}
 use mathlib.Core.List.{List, [], _∷_, _++_, append-nil}
-use Prim.Native.Nat.{ℕ, zero, suc, _+_, _-_, _≤_, _<_, zero-le}
+use Prim.Native.Nat.{ℕ, _+_, _-_, _≤_, _<_, zero-le}
 use native.Mathlib.Omega.{arith}
 use native.Mathlib.Nat.{zero-add}
 use lib.ListN.{length, getD, take, replicate}
@@ -12,20 +12,21 @@ use borrow.Author.Tests.{lt-ltb, le-ltb}
 use Rattle.semantics.specs.Lists.{filter, nonEmpty}
 use Rattle.semantics.specs.Plans.{Plan, encode, tables}
 use Rattle.semantics.specs.Mending.{cheapest, cost, mendedRoot, treeFor, mend, unmendable}
-use Rattle.semantics.proofs.Lists.{filter-append}
-use Rattle.semantics.proofs.Mending.{tables-nonEmpty, mendedRoot-named}
-use Rattle.semantics.proofs.Mendable.{unmendable-mendable}
+use Rattle.theory.proofs.Lists.{filter-append}
+use Rattle.theory.proofs.Mending.{tables-nonEmpty, mendedRoot-named}
+use Rattle.theory.proofs.Mendable.{unmendable-mendable}
+use Rattle.words.proofs.Arrays.{zero-at}
 use Rattle.mending.specs.Places.{PlanAt, Planned}
 use Rattle.mending.specs.Parts.{shapeIn, Spanned, Surveyed, slotOf}
-use Rattle.mending.specs.Rooting.{unpicked, betterOf, Kept, Given, Buildable, seen}
+use Rattle.mending.specs.Rooting.{unpicked, betterOf, RootsRemembered, Given, Buildable, bytesFrom}
 use Rattle.mending.specs.Writing.{Spelt}
-use Rattle.mending.specs.Whole.{Whole, Sent, RootOfWhole, WholeSearched, Mends}
+use Rattle.mending.specs.Whole.{MendablePlan, Sent, RootOfWhole, WholeSearched, Mends}
 use Rattle.mending.specs.Lacking.{foundOf}
 use Rattle.mending.specs.declared.lacking.Found.{Found}
 use Rattle.mending.specs.declared.lacking.Found.the-variants as found
-use Rattle.mending.specs.declared.rooting.Pick.{Pick}
+use Rattle.mending.specs.declared.rooting.Candidate.{Candidate}
 use Rattle.mending.proofs.Places.{plan-span}
-use Rattle.mending.proofs.Bytes.{plan-small, named-small, seen-plan, seen-more, names-small}
+use Rattle.mending.proofs.Bytes.{plan-small, named-small, bytesFrom-plan, bytesFrom-more, names-small}
 use Rattle.mending.proofs.Lacks.{found-none, found-at}
 use Rattle.mending.proofs.Picks.{picked-none, picked-more}
 use Rattle.mending.proofs.Roots.{cost-small}
@@ -35,46 +36,41 @@ module _ (s masks rows : List ℕ) where
   pub whole-begun : WholeSearched s masks rows 0 unpicked
   whole-begun p h = picked-none (cost (shapeIn masks rows) p) s ((plan-span s 0 p (length s) h) .2)
 
-  more-is : (n : ℕ) → filter (λ b. ltb b 16) (seen s 0 (n + 1)) ≡ filter (λ b. ltb b 16) (seen s 0 n) ++ filter (λ b. ltb b 16) (getD s n 0 ∷ [])
+  more-is : (n : ℕ) → filter (λ b. ltb b 16) (bytesFrom s 0 (n + 1)) ≡ filter (λ b. ltb b 16) (bytesFrom s 0 n) ++ filter (λ b. ltb b 16) (getD s n 0 ∷ [])
   more-is n =
-      ap (filter (λ b. ltb b 16)) (seen-more s 0 n ∙ ap (λ k. seen s 0 n ++ (getD s k 0 ∷ [])) (zero-add n)) ∙ filter-append (λ b. ltb b 16) (seen s 0 n) (getD s n 0 ∷ [])
+      ap (filter (λ b. ltb b 16)) (bytesFrom-more s 0 n ∙ ap (λ k. bytesFrom s 0 n ++ (getD s k 0 ∷ [])) (zero-add n)) ∙ filter-append (λ b. ltb b 16) (bytesFrom s 0 n) (getD s n 0 ∷ [])
 
-  pub whole-mark : (n : ℕ) (pick : Pick) → 16 ≤ getD s n 0 → WholeSearched s masks rows n pick → WholeSearched s masks rows (n + 1) pick
+  pub whole-mark : (n : ℕ) (pick : Candidate) → 16 ≤ getD s n 0 → WholeSearched s masks rows n pick → WholeSearched s masks rows (n + 1) pick
   whole-mark n pick h f p st =
-      rw (more-is n ∙ ap (λ l. filter (λ b. ltb b 16) (seen s 0 n) ++ l) (large (getD s n 0) h) ∙ append-nil (filter (λ b. ltb b 16) (seen s 0 n))) (f p st)
+      rw (more-is n ∙ ap (λ l. filter (λ b. ltb b 16) (bytesFrom s 0 n) ++ l) (large (getD s n 0) h) ∙ append-nil (filter (λ b. ltb b 16) (bytesFrom s 0 n))) (f p st)
     where
       large : (b : ℕ) → 16 ≤ b → filter (λ b. ltb b 16) (b ∷ []) ≡ []
       large b h = rw (le-ltb b 16 h)
 
-  pub whole-taken : length s ≤ 31 → ((t : ℕ) → getD rows t 0 ≤ 4096) → (n : ℕ) (pick : Pick) (c : ℕ) → n < length s → getD s n 0 < 16 → ((p : Plan) (e : ℕ) → PlanAt s 0 p e → c ≡ cost (shapeIn masks rows) p (getD s n 0))
+  pub whole-taken : length s ≤ 31 → ((t : ℕ) → getD rows t 0 ≤ 4096) → (n : ℕ) (pick : Candidate) (c : ℕ) → n < length s → getD s n 0 < 16 → ((p : Plan) (e : ℕ) → PlanAt s 0 p e → c ≡ cost (shapeIn masks rows) p (getD s n 0))
       → WholeSearched s masks rows n pick → WholeSearched s masks rows (n + 1) (betterOf pick n c)
   whole-taken short few n pick c w h cs f p st =
-      rw (more-is n ∙ ap (λ l. filter (λ b. ltb b 16) (seen s 0 n) ++ l) (one (getD s n 0) h))
-      (picked-more (cost (shapeIn masks rows) p) s pick n c w (cs p (length s) st) (omega (arith, cs p (length s) st, cost-small s masks rows short few 0 p (length s) (getD s n 0) st)) (filter (λ b. ltb b 16) (seen s 0 n)) (f p st))
+      rw (more-is n ∙ ap (λ l. filter (λ b. ltb b 16) (bytesFrom s 0 n) ++ l) (one (getD s n 0) h))
+      (picked-more (cost (shapeIn masks rows) p) s pick n c w (cs p (length s) st) (omega (arith, cs p (length s) st, cost-small s masks rows short few 0 p (length s) (getD s n 0) st)) (filter (λ b. ltb b 16) (bytesFrom s 0 n)) (f p st))
     where
       one : (b : ℕ) → b < 16 → filter (λ b. ltb b 16) (b ∷ []) ≡ b ∷ []
       one b h = rw (lt-ltb b 16 h)
 
-  pub whole-done : (n : ℕ) (pick : Pick) → length s ≤ n → n ≤ length s → Whole s masks rows → WholeSearched s masks rows n pick → RootOfWhole s masks rows (pick .place)
+  pub whole-done : (n : ℕ) (pick : Candidate) → length s ≤ n → n ≤ length s → MendablePlan s masks rows → WholeSearched s masks rows n pick → RootOfWhole s masks rows (pick .place)
   whole-done n pick a b w f =
       record {
         within = (f (w .plan) (w .stands)) .within;
         root = λ p st.
             let q = f p st in
-            let z : filter (λ b. ltb b 16) (seen s 0 n) ≡ tables p = ap (filter (λ b. ltb b 16)) (seen-plan s 0 n p (length s) st (omega arith)) ∙ names-small p (plan-small s 0 p (length s) st) in
+            let z : filter (λ b. ltb b 16) (bytesFrom s 0 n) ≡ tables p = ap (filter (λ b. ltb b 16)) (bytesFrom-plan s 0 n p (length s) st (omega arith)) ∙ names-small p (plan-small s 0 p (length s) st) in
             q .root (ap nonEmpty z ∙ tables-nonEmpty p) ∙ ap (cheapest (cost (shapeIn masks rows) p)) z ∙ (unfold mendedRoot in refl);
       }
 
   -- nothing is remembered yet
-  zeros-at : (n i : ℕ) → getD {A = ℕ} (replicate n 0) i 0 ≡ 0
-  zeros-at zero i = refl
-  zeros-at (suc n) zero = refl
-  zeros-at (suc n) (suc i) = zeros-at n i
+  pub kept-none : RootsRemembered s masks rows (replicate 64 0)
+  kept-none = record { slots = refl; roots = λ at side l r m e u v. inl (zero-at 64 (slotOf side at)) }
 
-  pub kept-none : Kept s masks rows (replicate 64 0)
-  kept-none = record { slots = refl; roots = λ at side l r m e u v. inl (zeros-at 64 (slotOf side at)) }
-
-  pub whole-buildable : Whole s masks rows → (n : ℕ) → n < length s → getD s n 0 < 16 → Buildable s masks rows 0 n
+  pub whole-buildable : MendablePlan s masks rows → (n : ℕ) → n < length s → getD s n 0 < 16 → Buildable s masks rows 0 n
   whole-buildable w n h b = record { plan = w .plan; end = length s; stands = w .stands; mendable = w .mendable; from = zero-le; to = h; table = b }
 
   -- ---- what mending rests on
@@ -88,11 +84,11 @@ module _ (s masks rows : List ℕ) where
   sent-given ends sets m q = record { short = m .short; words = m .words; few = m .few; distinct = m .distinct; surveyed = q }
 
   -- where no join lacks a holder the plan can be mended
-  pub sent-whole : (r : Found) → ((p : Plan) (e : ℕ) → PlanAt s 0 p e → r ≡ foundOf (unmendable (shapeIn masks rows) p 0)) → r ≡ found.Nothing → Sent s masks rows → Whole s masks rows
+  pub sent-whole : (r : Found) → ((p : Plan) (e : ℕ) → PlanAt s 0 p e → r ≡ foundOf (unmendable (shapeIn masks rows) p 0)) → r ≡ found.Nothing → Sent s masks rows → MendablePlan s masks rows
   sent-whole r f q w =
       record { plan = w .plan; stands = w .stands; mendable = unmendable-mendable (shapeIn masks rows) (w .plan) 0 (found-none (unmendable (shapeIn masks rows) (w .plan) 0) (sym (f (w .plan) (length s) (w .stands)) ∙ q)) }
 
-  pub root-buildable : (place : ℕ) → Whole s masks rows → RootOfWhole s masks rows place → Buildable s masks rows 0 place
+  pub root-buildable : (place : ℕ) → MendablePlan s masks rows → RootOfWhole s masks rows place → Buildable s masks rows 0 place
   root-buildable place w r =
       whole-buildable w place (r .within) (rw (r .root (w .plan) (w .stands)) (named-small s 0 (w .plan) (length s) (mendedRoot (shapeIn masks rows) (w .plan)) (w .stands) (mendedRoot-named (shapeIn masks rows) (w .plan))))
 

@@ -6,11 +6,11 @@ use Prim.Native.Nat.{ℕ, _+_, _-_, _<_, _≤_}
 use lib.ListN.{length, getD, take, drop}
 use lib.Dec.{eqb, ltb}
 use lib.Bits.{bitAnd}
-use Rattle.semantics.specs.Lists.{any, filter}
-use Rattle.semantics.specs.Plans.{Plan, encode, tables, Small}
-use Rattle.semantics.specs.Enumeration.{headOf}
+use Rattle.semantics.specs.Lists.{any, filter, headOf}
+use Rattle.semantics.specs.Plans.{Plan, encode, tables}
+use Rattle.theory.specs.Rules.{Small}
 use Rattle.semantics.specs.JoinTrees.{hangUnder}
-use Rattle.mending.specs.Parts.{Words}
+use Rattle.mending.specs.Parts.{MaskWords}
 
 -- a table with that mask holds all attributes of the key
 unfoldable pub holdsKey : ℕ → ℕ → Bool
@@ -57,12 +57,13 @@ Copied source from count before out to = (length out ≡ 31) × (take (to + coun
 
 -- what hanging asks: a plan with a holder, and room for both plans and an FF
 abbrev pub HangAsked : List ℕ → ℕ → List ℕ → List ℕ → List ℕ → Type 0
-HangAsked masks key own hung out = Words masks × Hangable masks key own × (length own + length hung + 1 ≤ 31) × (length out ≡ 31)
+HangAsked masks key own hung out = MaskWords masks × Hangable masks key own × (length own + length hung + 1 ≤ 31) × (length out ≡ 31)
 
 -- the plan c hung under the first table of p that holds the key
 abbrev pub HungBytes : List ℕ → ℕ → List ℕ → List ℕ → List ℕ → Type 0
 HungBytes masks key own hung out =
-    (p c : Plan) → Spells masks key own p → hung ≡ encode c → take (length own + length hung + 1) out ≡ encode (hangUnder (headOf (candidates masks key own)) c p)
+    (p c : Plan) → Spells masks key own p → hung ≡ encode c
+    → take (length own + length hung + 1) out ≡ encode (hangUnder (headOf (candidates masks key own)) c p)
 
-abbrev pub Hung : List ℕ → ℕ → List ℕ → List ℕ → List ℕ → Type 0
-Hung masks key own hung out = (length out ≡ 31) × HungBytes masks key own hung out
+abbrev pub TreeHung : List ℕ → ℕ → List ℕ → List ℕ → List ℕ → Type 0
+TreeHung masks key own hung out = (length out ≡ 31) × HungBytes masks key own hung out

@@ -26,11 +26,13 @@ earlier found.Nothing g = g
 
 -- whether a table of the side's plan holds its key
 abbrev pub SideHolds : List ℕ → List ℕ → Side → Bool → Type 0
-SideHolds s masks side b = (p : Plan) → PlanAt s (side .start) p (side .end) → b ≡ any (λ t. holdsKey (side .key) (getD masks t 0)) (tables p)
+SideHolds s masks side b =
+    (p : Plan) → PlanAt s (side .start) p (side .end) → b ≡ any (λ t. holdsKey (side .key) (getD masks t 0)) (tables p)
 
 -- whether both sides of the join at an index have a holder; row counts do not matter
 abbrev pub BothHold : List ℕ → List ℕ → ℕ → Bool → Type 0
-BothHold s masks at b = (rows : List ℕ) (x y : Plan) (m e : ℕ) → PlanAt s (at + 1) x m → PlanAt s m y e → b ≡ bothHold (shapeIn masks rows) x y
+BothHold s masks at b =
+    (rows : List ℕ) (x y : Plan) (m e : ℕ) → PlanAt s (at + 1) x m → PlanAt s m y e → b ≡ bothHold (shapeIn masks rows) x y
 
 -- the first FF, in the plan at an index, whose join has a side without one
 abbrev pub FirstLack : List ℕ → List ℕ → ℕ → Found → Type 0

@@ -19,8 +19,8 @@ unfoldable pub shapeIn : List ℕ → List ℕ → Shape
 shapeIn masks rows = record { rows = λ t. getD rows t 0; has = λ t a. hasBit (getD masks t 0) a }
 
 -- the masks are words
-abbrev pub Words : List ℕ → Type 0
-Words masks = (t : ℕ) → getD masks t 0 < 2 ^ 32
+abbrev pub MaskWords : List ℕ → Type 0
+MaskWords masks = (t : ℕ) → getD masks t 0 < 2 ^ 32
 
 -- r is what the plan p comes to, that ends at e
 pub record Parted (masks : List ℕ) (p : Plan) (e : ℕ) (r : Part) : Type 0 where
@@ -67,7 +67,7 @@ slotOf true at = 2 * at
 slotOf false at = 2 * at + 1
 
 -- the key is the mask of the join attributes of l and r
-pub record KeyOf (masks : List ℕ) (l r : Plan) (key : ℕ) : Type 0 where
+pub record JoinKey (masks : List ℕ) (l r : Plan) (key : ℕ) : Type 0 where
   pub word : key < 2 ^ 32
   pub bits : (a : ℕ) → hasBit key a ≡ (any (λ t. hasBit (getD masks t 0) a) (tables l) && any (λ t. hasBit (getD masks t 0) a) (tables r))
 
@@ -76,27 +76,29 @@ pub record Sided (masks : List ℕ) (at : ℕ) (right : Bool) (l r : Plan) (m e 
   pub start : s .start ≡ choose right m (at + 1)
   pub end : s .end ≡ choose right e m
   pub slot : s .slot ≡ slotOf right at
-  pub key : KeyOf masks l r (s .key)
+  pub key : JoinKey masks l r (s .key)
 
--- so it is of every plan whose bytes are surveyed
-abbrev pub SideOf : List ℕ → List ℕ → ℕ → Bool → Side → Type 0
-SideOf ends sets at right side =
-    (s masks : List ℕ) → Surveyed s masks ends sets → (x y : Plan) (m e : ℕ) → PlanAt s (at + 1) x m → PlanAt s m y e → Sided masks at right x y m e side
+-- the side is that of the join at the index, in every plan whose bytes are surveyed
+abbrev pub SideFor : List ℕ → List ℕ → ℕ → Bool → Side → Type 0
+SideFor ends sets at right side =
+    (s masks : List ℕ) → Surveyed s masks ends sets → (x y : Plan) (m e : ℕ)
+    → PlanAt s (at + 1) x m → PlanAt s m y e → Sided masks at right x y m e side
 
 -- that join taken apart for a root whose byte stands at a place
-pub record SplitOf (masks : List ℕ) (at place : ℕ) (l r : Plan) (m e : ℕ) (s : Split) : Type 0 where
+pub record SplitAt (masks : List ℕ) (at place : ℕ) (l r : Plan) (m e : ℕ) (s : Split) : Type 0 where
   pub left : s .left ≡ ltb place m
   pub own : s .own ≡ choose (s .left) (at + 1) m
   pub other : s .other ≡ choose (s .left) m (at + 1)
   pub size : s .own + s .size ≡ choose (s .left) m e
   pub rest : s .other + s .rest ≡ choose (s .left) e m
-  pub key : KeyOf masks l r (s .key)
+  pub key : JoinKey masks l r (s .key)
 
--- what that asks: the right side begins behind the left one and ends behind its beginning
+-- what taking a join apart asks: the right side begins behind the left one and ends behind its beginning
 abbrev pub Spaced : List ℕ → ℕ → Type 0
 Spaced ends at = (at + 1 ≤ getD ends (at + 1) 0) × (getD ends (at + 1) 0 < 31) × (getD ends (at + 1) 0 ≤ getD ends (getD ends (at + 1) 0) 0)
 
--- and gives, of every plan whose bytes are surveyed
+-- the split is that of the join at the index, in every plan whose bytes are surveyed
 abbrev pub SplitFor : List ℕ → List ℕ → ℕ → ℕ → Split → Type 0
 SplitFor ends sets at place split =
-    (s masks : List ℕ) → Surveyed s masks ends sets → (x y : Plan) (m e : ℕ) → PlanAt s (at + 1) x m → PlanAt s m y e → SplitOf masks at place x y m e split
+    (s masks : List ℕ) → Surveyed s masks ends sets → (x y : Plan) (m e : ℕ)
+    → PlanAt s (at + 1) x m → PlanAt s m y e → SplitAt masks at place x y m e split

@@ -9,24 +9,25 @@ use lib.Dec.{ltb}
 use Rattle.semantics.specs.Lists.{nonEmpty, from}
 use Rattle.semantics.specs.Plans.{Plan, join}
 use Rattle.semantics.specs.Shapes.{Shape, joinAttributes}
-use Rattle.semantics.specs.Mending.{cheapest, holders, cost, Mendable}
+use Rattle.semantics.specs.Mending.{cheapest, holders, cost}
+use Rattle.theory.specs.Selections.{Mendable}
 use Rattle.mending.specs.Places.{PlanAt}
-use Rattle.mending.specs.Parts.{shapeIn, Words, Surveyed, JoinIn, sidePlan, slotOf}
+use Rattle.mending.specs.Parts.{shapeIn, MaskWords, Surveyed, JoinIn, sidePlan, slotOf}
 use Rattle.mending.specs.Hanging.{candidates}
-use Rattle.mending.specs.declared.rooting.Pick.{Pick}
+use Rattle.mending.specs.declared.rooting.Candidate.{Candidate}
 
 -- no table yet: dearer than any
-abbrev pub unpicked : Pick
+abbrev pub unpicked : Candidate
 unpicked = record { place = 0; cost = 1048576 }
 
-unfoldable pub betterOf : Pick → ℕ → ℕ → Pick
+unfoldable pub betterOf : Candidate → ℕ → ℕ → Candidate
 betterOf pick place c = elim (ltb c (pick .cost)) [ true ↦ record { place = place; cost = c } | false ↦ pick ]
 
 -- a pick as one word that is not 0, and back
-abbrev pub packed : Pick → ℕ
+abbrev pub packed : Candidate → ℕ
 packed pick = 32 * pick .cost + pick .place + 1
 
-abbrev pub unpacked : ℕ → Pick
+abbrev pub unpacked : ℕ → Candidate
 unpacked word = record { place = (word - 1) % 32; cost = (word - 1) / 32 }
 
 -- the row count that the table t adds at a join, as the root of its right or its left side
@@ -46,16 +47,16 @@ unfoldable pub sideRoot : Shape → Bool → Plan → Plan → ℕ
 sideRoot S right l r = cheapest (sideCost S right (sidePlan right l r)) (holders S (joinAttributes S l r) (sidePlan right l r))
 
 -- the pick is the byte of that root in s, with what it costs
-pub record RootOf (s : List ℕ) (S : Shape) (right : Bool) (l r : Plan) (pick : Pick) : Type 0 where
+pub record RootPicked (s : List ℕ) (S : Shape) (right : Bool) (l r : Plan) (pick : Candidate) : Type 0 where
   pub within : pick .place < length s
   pub root : getD s (pick .place) 0 ≡ sideRoot S right l r
   pub costs : pick .cost ≡ sideCost S right (sidePlan right l r) (sideRoot S right l r)
 
 -- each word of the memory is 0, or the root of its side is packed in it
-pub record Kept (s masks rows best : List ℕ) : Type 0 where
+pub record RootsRemembered (s masks rows best : List ℕ) : Type 0 where
   pub slots : length best ≡ 64
   pub roots : (at : ℕ) (side : Bool) (l r : Plan) (m e : ℕ) → PlanAt s (at + 1) l m → PlanAt s m r e
-      → (getD best (slotOf side at) 0 ≡ 0) ⊎ RootOf s (shapeIn masks rows) side l r (unpacked (getD best (slotOf side at) 0))
+      → (getD best (slotOf side at) 0 ≡ 0) ⊎ RootPicked s (shapeIn masks rows) side l r (unpacked (getD best (slotOf side at) 0))
 
 -- no table is named by two bytes
 abbrev pub Distinct : List ℕ → Type 0
@@ -64,7 +65,7 @@ Distinct s = (i j : ℕ) → i < length s → j < length s → getD s i 0 < 16 �
 -- what the functions rest on: answers 4, 7 and 8 leave so much, and the plan is surveyed
 pub record Given (s masks rows ends sets : List ℕ) : Type 0 where
   pub short : length s ≤ 31
-  pub words : Words masks
+  pub words : MaskWords masks
   pub few : (t : ℕ) → getD rows t 0 ≤ 4096
   pub distinct : Distinct s
   pub surveyed : Surveyed s masks ends sets
@@ -85,25 +86,29 @@ MendableAt s masks rows at = (l r : Plan) (m e : ℕ) → PlanAt s (at + 1) l m 
 
 -- what tree building for a root asks, and what it promises: the memory stays right, and r is the penalty
 abbrev pub TreeAsked : List ℕ → List ℕ → List ℕ → List ℕ → List ℕ → List ℕ → ℕ → ℕ → Type 0
-TreeAsked s masks rows ends sets best at place = Given s masks rows ends sets × Kept s masks rows best × Buildable s masks rows at place
+TreeAsked s masks rows ends sets best at place =
+    Given s masks rows ends sets × RootsRemembered s masks rows best × Buildable s masks rows at place
 
 abbrev pub TreeBuilt : List ℕ → List ℕ → List ℕ → List ℕ → ℕ → ℕ → ℕ → Type 0
-TreeBuilt s masks rows best at place r = Kept s masks rows best × ((p : Plan) (e : ℕ) → PlanAt s at p e → r ≡ cost (shapeIn masks rows) p (getD s place 0))
+TreeBuilt s masks rows best at place r =
+    RootsRemembered s masks rows best × ((p : Plan) (e : ℕ) → PlanAt s at p e → r ≡ cost (shapeIn masks rows) p (getD s place 0))
 
 -- what best-root search asks, and what it promises: the memory stays right, and the pick is the side's root with its cost
 abbrev pub RootAsked : List ℕ → List ℕ → List ℕ → List ℕ → List ℕ → List ℕ → ℕ → Type 0
-RootAsked s masks rows ends sets best at = Given s masks rows ends sets × Kept s masks rows best × JoinIn s at × MendableAt s masks rows at
+RootAsked s masks rows ends sets best at =
+    Given s masks rows ends sets × RootsRemembered s masks rows best × JoinIn s at × MendableAt s masks rows at
 
-abbrev pub RootFound : List ℕ → List ℕ → List ℕ → List ℕ → ℕ → Bool → Pick → Type 0
+abbrev pub RootFound : List ℕ → List ℕ → List ℕ → List ℕ → ℕ → Bool → Candidate → Type 0
 RootFound s masks rows best at right pick =
-    Kept s masks rows best × ((x y : Plan) (m e : ℕ) → PlanAt s (at + 1) x m → PlanAt s m y e → RootOf s (shapeIn masks rows) right x y pick)
+    RootsRemembered s masks rows best
+    × ((x y : Plan) (m e : ℕ) → PlanAt s (at + 1) x m → PlanAt s m y e → RootPicked s (shapeIn masks rows) right x y pick)
 
 -- n bytes from an index
-abbrev pub seen : List ℕ → ℕ → ℕ → List ℕ
-seen s at n = map (λ j. getD s j 0) (from at n)
+abbrev pub bytesFrom : List ℕ → ℕ → ℕ → List ℕ
+bytesFrom s at n = map (λ j. getD s j 0) (from at n)
 
 -- the pick among some tables by what they cost: the byte of the cheapest
-pub record Picked (f : ℕ → ℕ) (s xs : List ℕ) (pick : Pick) : Type 0 where
+pub record Picked (f : ℕ → ℕ) (s xs : List ℕ) (pick : Candidate) : Type 0 where
   pub within : pick .place < length s
   pub bounded : pick .cost ≤ 1048576
   pub none : nonEmpty xs ≡ false → pick .cost ≡ 1048576
@@ -111,6 +116,7 @@ pub record Picked (f : ℕ → ℕ) (s xs : List ℕ) (pick : Pick) : Type 0 whe
   pub costs : nonEmpty xs ≡ true → pick .cost ≡ f (cheapest f xs)
 
 -- the search among the first n bytes of a side of the join at an index
-abbrev pub Searched : List ℕ → List ℕ → List ℕ → ℕ → Bool → ℕ → ℕ → ℕ → Pick → Type 0
-Searched s masks rows at right start key n pick =
-    (x y : Plan) (m e : ℕ) → PlanAt s (at + 1) x m → PlanAt s m y e → Picked (sideCost (shapeIn masks rows) right (sidePlan right x y)) s (candidates masks key (seen s start n)) pick
+abbrev pub SideSearched : List ℕ → List ℕ → List ℕ → ℕ → Bool → ℕ → ℕ → ℕ → Candidate → Type 0
+SideSearched s masks rows at right start key n pick =
+    (x y : Plan) (m e : ℕ) → PlanAt s (at + 1) x m → PlanAt s m y e
+    → Picked (sideCost (shapeIn masks rows) right (sidePlan right x y)) s (candidates masks key (bytesFrom s start n)) pick

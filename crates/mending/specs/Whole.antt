@@ -8,16 +8,17 @@ use lib.Dec.{ltb}
 use Rattle.semantics.specs.Lists.{filter}
 use Rattle.semantics.specs.Plans.{Plan, encode}
 use Rattle.semantics.specs.Shapes.{Shape}
-use Rattle.semantics.specs.Mending.{Mendable, cost, mendedRoot, mend, unmendable}
+use Rattle.theory.specs.Selections.{Mendable}
+use Rattle.semantics.specs.Mending.{cost, mendedRoot, mend, unmendable}
 use Rattle.mending.specs.Places.{PlanAt}
-use Rattle.mending.specs.Parts.{shapeIn, Words}
+use Rattle.mending.specs.Parts.{shapeIn, MaskWords}
 use Rattle.mending.specs.Lacking.{foundOf}
-use Rattle.mending.specs.Rooting.{Kept, Distinct, Given, seen, Picked}
+use Rattle.mending.specs.Rooting.{RootsRemembered, Distinct, Given, bytesFrom, Picked}
 use Rattle.mending.specs.declared.lacking.Found.{Found}
-use Rattle.mending.specs.declared.rooting.Pick.{Pick}
+use Rattle.mending.specs.declared.rooting.Candidate.{Candidate}
 
 -- the bytes are those of one plan, and it can be mended
-pub record Whole (s masks rows : List ℕ) : Type 0 where
+pub record MendablePlan (s masks rows : List ℕ) : Type 0 where
   pub plan : Plan
   pub stands : PlanAt s 0 plan (length s)
   pub mendable : Mendable (shapeIn masks rows) plan
@@ -29,7 +30,7 @@ pub record Sent (s masks rows : List ℕ) : Type 0 where
   pub stands : PlanAt s 0 plan (length s)
   pub short : length s ≤ 31
   pub distinct : Distinct s
-  pub words : Words masks
+  pub words : MaskWords masks
   pub few : (t : ℕ) → getD rows t 0 ≤ 4096
 
 -- what mending the plan p, of n bytes, returns, and the bytes that the buffer holds then: those behind the mended plan are left open
@@ -39,7 +40,7 @@ pub record Mends (S : Shape) (p : Plan) (n : ℕ) (before out : List ℕ) (r : F
   pub bytes : unmendable S p 0 ≡ none → take n out ≡ encode (mend S p)
   pub untouched : (i : ℕ) → unmendable S p 0 ≡ some i → out ≡ before
 
--- so it is of the plan that the bytes spell
+-- the answer and the buffer are those of mending the plan that the bytes spell
 abbrev pub MendsPlan : List ℕ → List ℕ → List ℕ → List ℕ → List ℕ → Found → Type 0
 MendsPlan s masks rows before out r = (p : Plan) → PlanAt s 0 p (length s) → Mends (shapeIn masks rows) p (length s) before out r
 
@@ -49,12 +50,13 @@ pub record RootOfWhole (s masks rows : List ℕ) (place : ℕ) : Type 0 where
   pub root : (p : Plan) → PlanAt s 0 p (length s) → getD s place 0 ≡ mendedRoot (shapeIn masks rows) p
 
 -- the search for it, n bytes gone through
-abbrev pub WholeSearched : List ℕ → List ℕ → List ℕ → ℕ → Pick → Type 0
-WholeSearched s masks rows n pick = (p : Plan) → PlanAt s 0 p (length s) → Picked (cost (shapeIn masks rows) p) s (filter (λ b. ltb b 16) (seen s 0 n)) pick
+abbrev pub WholeSearched : List ℕ → List ℕ → List ℕ → ℕ → Candidate → Type 0
+WholeSearched s masks rows n pick =
+    (p : Plan) → PlanAt s 0 p (length s) → Picked (cost (shapeIn masks rows) p) s (filter (λ b. ltb b 16) (bytesFrom s 0 n)) pick
 
 -- what the search asks, and what it promises: the memory stays right, and the place is the root's
 abbrev pub WholeAsked : List ℕ → List ℕ → List ℕ → List ℕ → List ℕ → List ℕ → Type 0
-WholeAsked s masks rows ends sets best = Given s masks rows ends sets × Kept s masks rows best × Whole s masks rows
+WholeAsked s masks rows ends sets best = Given s masks rows ends sets × RootsRemembered s masks rows best × MendablePlan s masks rows
 
 abbrev pub WholeFound : List ℕ → List ℕ → List ℕ → List ℕ → ℕ → Type 0
-WholeFound s masks rows best place = Kept s masks rows best × RootOfWhole s masks rows place
+WholeFound s masks rows best place = RootsRemembered s masks rows best × RootOfWhole s masks rows place

@@ -3,7 +3,7 @@ ghost use mathlib.Core.Path.{_≡_};
 ghost use Prim.Native.Nat.{_+_, _<_, _≤_};
 ghost use lib.ListN.{length};
 ghost use lib.Dec.{ltb};
-ghost use Rattle.mending.specs.Hanging.{heldBy, FirstHolder, RunStart, Copied, HangAsked, Hung};
+ghost use Rattle.mending.specs.Hanging.{heldBy, FirstHolder, RunStart, Copied, HangAsked, TreeHung};
 use crate::parts::part_at;
 
 // Plan bytes 0 to 15 are tables.
@@ -72,7 +72,7 @@ fn copy_part(source: &[u8], from: usize, count: usize, out: &mut [u8; 31], to: u
 // The tree `hung` hung last under the topmost table of the tree `own` that holds the key.
 pub(crate) fn hang(own: &[u8], hung: &[u8], key: u32, masks: &[u32; 16], out: &mut [u8; 31])
     requires { ⌜ HangAsked (now masks) key (now own) (now hung) (now out) ⌝ }
-    ensures { λ _. ⌜ Hung (now (masks .entry)) key (now (own .entry)) (now (hung .entry)) (now (out .exit)) ⌝ }
+    ensures { λ _. ⌜ TreeHung (now (masks .entry)) key (now (own .entry)) (now (hung .entry)) (now (out .exit)) ⌝ }
 {
     let j = first_holder(own, key, masks);
     let i = run_start(own, j);

@@ -4,7 +4,7 @@ ghost use Prim.Native.Nat.{ℕ, _+_, _<_};
 ghost use lib.ListN.{length, getD};
 ghost use Rattle.semantics.specs.Plans.{Plan};
 ghost use Rattle.mending.specs.Places.{PlanAt, Planned};
-ghost use Rattle.mending.specs.Parts.{Words, Parted, Surveyed, Spanned, SideOf, Spaced, SplitFor};
+ghost use Rattle.mending.specs.Parts.{MaskWords, Parted, Surveyed, Spanned, SideFor, Spaced, SplitFor};
 
 // A plan inside the plan: the attributes of its tables, and the index behind it.
 pub struct Part {
@@ -33,7 +33,7 @@ pub struct Split {
 
 // The plan that begins at an index, for tables with these masks. The bytes spell a plan: only a table number or an FF stands there.
 pub(crate) fn part_at(code: &[u8], masks: &[u32; 16], at: usize) -> Part
-    requires { ⌜ Words (now masks) × Planned (now code) at ⌝ }
+    requires { ⌜ MaskWords (now masks) × Planned (now code) at ⌝ }
     ensures { λ r. ⌜ ((p : Plan) (e : ℕ) → PlanAt (now (code .entry)) at p e → Parted (now (masks .entry)) p e r) ⌝ }
 {
     let b = code[at];
@@ -63,7 +63,7 @@ pub(crate) fn part_at(code: &[u8], masks: &[u32; 16], at: usize) -> Part
 
 // By index, the plan that begins there: where it ends, and the attributes of its tables.
 pub(crate) fn survey(code: &[u8], masks: &[u32; 16], ends: &mut [usize; 31], sets: &mut [u32; 31])
-    requires { ⌜ Words (now masks) × Spanned (now code) × (length (now ends) ≡ 31) × (length (now sets) ≡ 31) ⌝ }
+    requires { ⌜ MaskWords (now masks) × Spanned (now code) × (length (now ends) ≡ 31) × (length (now sets) ≡ 31) ⌝ }
     ensures { λ _. ⌜ Surveyed (now (code .entry)) (now (masks .entry)) (now (ends .exit)) (now (sets .exit)) ⌝ }
 {
     let mut i = 0;
@@ -78,7 +78,7 @@ pub(crate) fn survey(code: &[u8], masks: &[u32; 16], ends: &mut [usize; 31], set
 // The left or the right side of the join at an index.
 pub(crate) fn side_of(ends: &[usize; 31], sets: &[u32; 31], at: usize, right: bool) -> Side
     requires { ⌜ (at < 30) × (getD (now ends) (at + 1) 0 < 31) ⌝ }
-    ensures { λ r. ⌜ SideOf (now (ends .entry)) (now (sets .entry)) at right r ⌝ }
+    ensures { λ r. ⌜ SideFor (now (ends .entry)) (now (sets .entry)) at right r ⌝ }
 {
     let middle = ends[at + 1];
     let key = sets[at + 1] & sets[middle];

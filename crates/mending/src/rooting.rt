@@ -3,41 +3,40 @@
 // and the side alone, so each is searched for once and remembered with what it costs. A root is the index of its byte.
 ghost use mathlib.Core.Path.{_≡_};
 ghost use Prim.Native.Nat.{_<_, _≤_};
-ghost use Rattle.mending.specs.Rooting.{unpicked, betterOf, packed, unpacked, rowsAdded};
-ghost use Rattle.mending.specs.Rooting.{TreeAsked, TreeBuilt, RootAsked, RootFound};
+ghost use Rattle.mending.specs.Rooting.{unpicked, betterOf, packed, unpacked, rowsAdded, TreeAsked, TreeBuilt, RootAsked, RootFound};
 use crate::hanging::holds;
 use crate::parts::side_of;
 use crate::parts::split_for;
 
 // The cheapest table so far, by the index of its byte, and what it costs.
-pub struct Pick {
+pub struct Candidate {
     pub place: usize,
     pub cost: usize,
 }
 
 // No table yet: dearer than any.
-pub(crate) fn no_pick() -> Pick
+pub(crate) fn no_pick() -> Candidate
     ensures { λ r. ⌜ r ≡ unpicked ⌝ }
 {
-    Pick {
+    Candidate {
         place: 0,
         cost: 1048576,
     }
 }
 
 // The cheaper one; of equals the first.
-pub(crate) fn better(pick: Pick, place: usize, cost: usize) -> Pick
+pub(crate) fn better(pick: Candidate, place: usize, cost: usize) -> Candidate
     ensures { λ r. ⌜ r ≡ betterOf pick place cost ⌝ }
 {
     if cost < pick.cost {
-        Pick { place, cost }
+        Candidate { place, cost }
     } else {
         pick
     }
 }
 
 // A pick as one word that is not 0.
-fn pack(pick: Pick) -> usize
+fn pack(pick: Candidate) -> usize
     requires { ⌜ pick .cost ≤ 1048576 × (pick .place < 32) ⌝ }
     ensures { λ r. ⌜ r ≡ packed pick ⌝ }
 {
@@ -45,11 +44,11 @@ fn pack(pick: Pick) -> usize
 }
 
 // The pick that a word holds.
-fn unpack(word: usize) -> Pick
+fn unpack(word: usize) -> Candidate
     requires { ⌜ 0 < word ⌝ }
     ensures { λ r. ⌜ r ≡ unpacked word ⌝ }
 {
-    Pick {
+    Candidate {
         place: (word - 1) % 32,
         cost: (word - 1) / 32,
     }
@@ -68,7 +67,7 @@ fn rows_added(rows: &[usize; 16], root: u8, right: bool) -> usize
     }
 }
 
-// The tree of the plan at an index for this root: its roots chosen, and its penalty.
+// The penalty of the tree of the plan at an index for this root.
 pub(crate) fn tree_for(
     code: &[u8],
     masks: &[u32; 16],
@@ -106,7 +105,7 @@ pub(crate) fn best_root(
     at: usize,
     right: bool,
     best: &mut [usize; 64],
-) -> Pick
+) -> Candidate
     requires { ⌜ RootAsked (now code) (now masks) (now rows) (now ends) (now sets) (now best) at ⌝ }
     ensures { λ r. ⌜ RootFound (now (code .entry)) (now (masks .entry)) (now (rows .entry)) (now (best .exit)) at right r ⌝ }
 {

@@ -1,5 +1,5 @@
 // A tree as bytes: that of the side with the root, with the other side's tree hung in it.
-ghost use Rattle.mending.specs.Writing.{WriteAsked, Written};
+ghost use Rattle.mending.specs.Writing.{WriteAsked, TreeWritten};
 use crate::hanging::hang;
 use crate::parts::split_for;
 use crate::rooting::best_root;
@@ -17,7 +17,8 @@ pub(crate) fn write_tree(
     out: &mut [u8; 31],
 )
     requires { ⌜ WriteAsked (now code) (now masks) (now rows) (now ends) (now sets) (now best) (now out) at place ⌝ }
-    ensures { λ _. ⌜ Written (now (code .entry)) (now (masks .entry)) (now (rows .entry)) (now (best .exit)) (now (out .exit)) at place ⌝ }
+    ensures { λ _. ⌜ TreeWritten (now (code .entry)) (now (masks .entry)) (now (rows .entry)) (now (best .exit))
+        (now (out .exit)) at place ⌝ }
 {
     let b = code[at];
     match b {

@@ -1,23 +1,22 @@
 -- Answers 7 and 8, one after the other, for the tables of a catalog, and whether the plan is followed as it was sent.
-use Prim.Native.Nat.{ℕ, zero, suc, _<_, _≤_, _^_}
+use Prim.Native.Nat.{ℕ, _<_, _≤_, _^_}
 use mathlib.Core.Path.{_≡_, refl, sym, ap, _∙_}
 use mathlib.Core.Bool.{Bool, true, false}
 use mathlib.Core.List.{List, [], _∷_, map}
 use mathlib.Core.Option.{none}
 use native.Mathlib.Omega.{arith}
-use lib.ListN.{length, getD, List·getD-map}
+use lib.ListN.{length, getD}
 use lib.Dec.{ltb}
-use Rattle.semantics.specs.Lists.{Each}
+use Rattle.theory.specs.Elements.{Each}
 use Rattle.semantics.specs.Files.{Table, hasBit}
 use Rattle.semantics.specs.Plans.{Plan, misplaced, planOf, misnamed}
 use Rattle.semantics.specs.Shapes.{Shape, noTable, shapeOf}
 use Rattle.semantics.specs.Outcome.{refused, sentVerdict, asksForPlan, planVerdict}
-use Rattle.semantics.proofs.Cases.{cases, option-cases}
-use Rattle.semantics.proofs.Rules.{plan-sent}
+use Rattle.theory.proofs.Cases.{cases, option-cases}
+use Rattle.theory.proofs.Rules.{plan-sent}
 use borrow.Author.Tests.{eq-eqb, ne-eqb, lt-ltb}
 use Rattle.words.specs.Arrays.{padded}
 use Rattle.words.specs.Masks.{Masked}
-use Rattle.words.proofs.Arrays.{padded-at}
 use Rattle.tables.specs.declared.Catalog.{Catalog}
 use Rattle.tables.specs.Catalogs.{catalogOf}
 use Rattle.mending.specs.declared.lacking.Found.{Found}
@@ -25,35 +24,26 @@ use Rattle.mending.specs.declared.lacking.Found.the-variants as found
 use Rattle.mending.specs.Places.{PlanAt, Planned}
 use Rattle.mending.specs.Lacking.{foundOf}
 use Rattle.mending.proofs.Lacks.{found-none, found-at}
+use Rattle.tables.proofs.Catalogs.{mask-at, rows-at}
+use Rattle.theory.proofs.Lists.{each-at}
 use Rattle.plans.specs.declared.admission.Check.the-variants as check
 use Rattle.plans.specs.Judging.{wellBehaved}
 use Rattle.plans.specs.Admissions.{Tabled, Catalogued, asksFor, sentCheck, checkOf, Named, Formable, asked, sent}
 use Rattle.mending.proofs.Places.{spelled-stands}
 
 -- ---- the arrays of a catalog
-pub each-at : (P : Table → Type 0) (ts : List Table) → Each P ts → P noTable → (i : ℕ) → P (getD ts i noTable)
-each-at P [] e d i = d
-each-at P (t ∷ ts) e d zero = e .0
-each-at P (t ∷ ts) e d (suc i) = each-at P ts (e .1) d i
-
 module _ (ts : List Table) where
-  pub mask-at : (i : ℕ) → getD (padded (map (λ t. t .mask) ts)) i 0 ≡ (getD ts i noTable) .mask
-  mask-at i = padded-at (map (λ t. t .mask) ts) i ∙ List·getD-map (λ t. t .mask) ts i noTable
-
-  pub rows-at : (i : ℕ) → getD (padded (map (λ t. t .rows) ts)) i 0 ≡ (getD ts i noTable) .rows
-  rows-at i = padded-at (map (λ t. t .rows) ts) i ∙ List·getD-map (λ t. t .rows) ts i noTable
-
   -- the masks are those of the tables' shape
   pub masked : Each (λ t. t .mask < 2 ^ 32) ts → Masked (padded (map (λ t. t .mask) ts)) (shapeOf ts)
   unfolding shapeOf
   masked h =
       record {
-        bits = λ t a lt. sym (ap (λ m. hasBit m a) (mask-at t));
-        words = λ t lt. omega (arith, mask-at t, each-at (λ t. t .mask < 2 ^ 32) ts h (omega arith) t);
+        bits = λ t a lt. sym (ap (λ m. hasBit m a) (mask-at ts t));
+        words = λ t lt. omega (arith, mask-at ts t, each-at (λ t. t .mask < 2 ^ 32) ts noTable h (omega arith) t);
       }
 
   pub rows-few : Each (λ t. t .rows ≤ 4096) ts → (t : ℕ) → t < 16 → getD (padded (map (λ t. t .rows) ts)) t 0 ≤ 4096
-  rows-few h t lt = omega (arith, rows-at t, each-at (λ t. t .rows ≤ 4096) ts h (omega arith) t)
+  rows-few h t lt = omega (arith, rows-at ts t, each-at (λ t. t .rows ≤ 4096) ts noTable h (omega arith) t)
 
 -- ---- by what the checks found
 pub count-is : (c : Catalog) (ts : List Table) → Tabled c ts → c .count ≡ length ts

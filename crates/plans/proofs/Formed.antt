@@ -5,29 +5,28 @@ use Prim.Native.Nat.{ℕ, _<_, _≤_}
 use native.Mathlib.Omega.{arith}
 use lib.ListN.{length, take}
 use Rattle.semantics.specs.Files.{Table}
-use Rattle.semantics.specs.Plans.{misplaced, planOf}
+use Rattle.semantics.specs.Plans.{planOf}
 use Rattle.semantics.specs.Shapes.{Shape, shapeOf}
 use Rattle.semantics.specs.Elimination.{eliminate, planUnder}
-use Rattle.semantics.specs.Outcome.{refused, admitted, foundVerdict, planVerdict, scratchVerdict, WithinRules}
-use Rattle.semantics.proofs.Spelling.{planOf-encode}
-use Rattle.semantics.proofs.Misplaced.{spelled-exactly}
-use Rattle.semantics.proofs.FoundPlans.{elimination-cases}
-use Rattle.semantics.proofs.Rules.{asks-plan, plan-asked, plan-found, plan-within}
+use Rattle.semantics.specs.Outcome.{refused, admitted, foundVerdict, planVerdict, scratchVerdict}
+use Rattle.theory.specs.Rules.{WithinRules}
+use Rattle.theory.proofs.Spelling.{planOf-encode}
+use Rattle.theory.proofs.Misplaced.{spelled-exactly}
+use Rattle.theory.proofs.FoundPlans.{elimination-cases}
+use Rattle.theory.proofs.Rules.{asks-plan, plan-asked, plan-found, plan-within}
 use Rattle.words.specs.Masks.{Masked}
 use Rattle.elimination.specs.Steps.{Shaped}
 use Rattle.elimination.specs.Searches.{SearchIs}
 use Rattle.elimination.specs.declared.Search.{Search}
 use Rattle.elimination.specs.declared.Search.the-variants as search
 use Rattle.tables.specs.declared.Catalog.{Catalog}
-use Rattle.plans.specs.declared.schedule.Schedule.{Schedule}
 use Rattle.plans.specs.declared.admission.Verdict.the-variants as decision
-use Rattle.plans.specs.declared.admission.Admission.{Admission}
 use Rattle.plans.specs.declared.forming.Formed.{Formed}
 use Rattle.plans.specs.declared.forming.Formed.the-variants as formed
-use Rattle.plans.specs.Schedules.{noSchedule}
-use Rattle.plans.specs.Admissions.{Tabled, Named, NamedFor, Formable, asked, sent, Follows, Accepted, admissionBy, followedAdmission, planAdmission}
+use Rattle.plans.specs.Schedules.{Schedule, noSchedule}
+use Rattle.plans.specs.Admissions.{Tabled, Named, NamedFor, Formable, asked, sent, Follows, Decided, decidedBy, decidedFollowing, decidedPlan}
 use Rattle.plans.specs.Forming.{FormableFor, PlanlessFor, PlanIn, FormedAs}
-use Rattle.plans.proofs.Admitting.{masked, masks-are, count-is, spelled-sent}
+use Rattle.plans.proofs.Admitting.{masked, masks-are, count-is}
 use Rattle.plans.proofs.Scratch.{refused-admission}
 
 -- ---- what is found
@@ -91,7 +90,7 @@ named-for c code q l = record { ts = q .ts; tabled = q .tabled; named = sent-nam
 
 -- ---- what is formed is followed
 module _ (c : Catalog) (ts : List Table) (h : Tabled c ts) (code out : List ℕ) (r : Formed) (is : FormedAs ts code r out) where
-  pub formed-refused : (n d words : ℕ) → r ≡ formed.Refused n d → (free : Schedule) → free ≡ noSchedule → record { verdict = decision.Refused n d; catalog = c; schedule = free } ≡ planAdmission ts code words
+  pub formed-refused : (n d words : ℕ) → r ≡ formed.Refused n d → (free : Schedule) → free ≡ noSchedule → record { verdict = decision.Refused n d; catalog = c; schedule = free } ≡ decidedPlan ts code words
   formed-refused n d words e free f = refused-admission c ts code n d words h (rw e at is) free f
 
   module _ (n : ℕ) (e : r ≡ formed.Plan n) where
@@ -111,7 +110,7 @@ module _ (c : Catalog) (ts : List Table) (h : Tabled c ts) (code out : List ℕ)
           within = rw plan-is within;
         }
 
-    pub formed-admission : (words : ℕ) (a : Admission) → a ≡ followedAdmission ts (planOf (take n out)) words → a ≡ planAdmission ts code words
-    unfolding followedAdmission planAdmission
+    pub formed-admission : (words : ℕ) (a : Decided) → a ≡ decidedFollowing ts (planOf (take n out)) words → a ≡ decidedPlan ts code words
+    unfolding decidedFollowing decidedPlan
     formed-admission words a q =
-        q ∙ ap (λ p. admissionBy ts (scratchVerdict words (admitted ts p))) plan-is ∙ ap (λ v. admissionBy ts (scratchVerdict words v)) (sym (plan-in .admits))
+        q ∙ ap (λ p. decidedBy ts (scratchVerdict words (admitted ts p))) plan-is ∙ ap (λ v. decidedBy ts (scratchVerdict words v)) (sym (plan-in .admits))

@@ -1,7 +1,7 @@
 -- One step of the check of well-behaved plans: a single table, and a join of two plans.
 use Prim.Native.Nat.{ℕ, _+_, _<_, _^_}
 use mathlib.Core.Path.{_≡_, refl, sym, ap, ap₂, _∙_, fun-ext}
-use mathlib.Core.Bool.{true, false, _&&_, _||_, or-false}
+use mathlib.Core.Bool.{true, false, _&&_}
 use mathlib.Core.List.{List}
 use native.Mathlib.Omega.{arith}
 use lib.ListN.{getD}
@@ -11,10 +11,11 @@ use lib.Bits.{bitAnd, or-lt, and-le-l}
 use Rattle.semantics.specs.Lists.{all, filter}
 use Rattle.semantics.specs.Files.{hasBit}
 use Rattle.semantics.specs.Plans.{Plan, scan, join, leftmost}
-use Rattle.semantics.specs.Shapes.{Shape, attributes, holds, shared, joinAttributes, behaves, WellBehaved}
-use Rattle.semantics.proofs.Cases.{and-left, and-right}
-use Rattle.semantics.proofs.JoinTrees.{holds-join}
-use Rattle.words.proofs.Masks.{hasBit-and, hasBit-or, covers}
+use Rattle.semantics.specs.Shapes.{Shape, attributes, holds, shared, joinAttributes}
+use Rattle.theory.specs.Rules.{behaves, WellBehaved}
+use Rattle.theory.proofs.Cases.{and-left, and-right}
+use Rattle.theory.proofs.JoinTrees.{holds-scan}
+use Rattle.words.proofs.Masks.{hasBit-and, union-holds, covers}
 use Rattle.plans.specs.declared.behaviour.Subplan.{Subplan}
 use Rattle.mending.specs.Places.{PlanAt, Planned}
 use Rattle.plans.specs.Judging.{wellBehaved, behavesBy, joinedOf, Ruled, Judged}
@@ -47,10 +48,6 @@ module _ (l r : Subplan) (m n : ℕ) where
   pub by-masks : (bitAnd shared-mask (bitAnd m n) ≡ shared-mask → ⊥) → false ≡ behavesBy l r m n
   unfolding behavesBy
   by-masks e = sym (rw (ne-eqb (bitAnd shared-mask (bitAnd m n)) shared-mask e, behavesBy) refl)
-
-pub holds-scan : (S : Shape) (t a : ℕ) → holds S (scan t) a ≡ S .has t a
-unfolding holds
-holds-scan S t a = or-false (S .has t a)
 
 -- a single table: not an FF
 pub one-table : (masks s : List ℕ) (at : ℕ) → (getD s at 0 ≡ 255 → ⊥) → (x : ℕ) → x ≡ getD s at 0 → (p : Plan) (e : ℕ) → PlanAt s at p e
@@ -101,7 +98,7 @@ two-plans masks s at q l r f g (join a b) e h =
           let ul : Ruled S a l = jl .rules S M in
           let ur : Ruled S b r = jr .rules S M in
           record {
-            attributes = λ i. hasBit-or (l .attributes) (r .attributes) i ∙ ap₂ (λ x y. x || y) (ul .attributes i) (ur .attributes i) ∙ sym (holds-join S a b i);
+            attributes = λ i. union-holds S a b (l .attributes) (r .attributes) i (ul .attributes i) (ur .attributes i);
             word = or-lt 32 (l .attributes) (r .attributes) (ul .word) (ur .word);
             behaved =
                 behaved-join S a b l r (getD masks (l .leftmost) 0) (getD masks (r .leftmost) 0)

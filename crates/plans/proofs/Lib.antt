@@ -11,5 +11,5 @@ pub mod Sending
 pub mod Formed
 pub mod Verdicts
 pub mod Segments
-pub mod ByNumber
+pub mod ByPosition
 pub mod Prepared

@@ -12,14 +12,14 @@ use lib.Dec.{eqb, ltb}
 use borrow.Author.Tests.{eq-eqb, ne-eqb, eqb-true, eqb-false, lt-ltb, le-ltb}
 use Rattle.semantics.specs.Lists.{any}
 use Rattle.semantics.specs.Plans.{misnamed}
-use Rattle.semantics.proofs.Cases.{cases}
+use Rattle.theory.proofs.Cases.{cases}
 use Rattle.mending.specs.Lacking.{foundOf}
-use Rattle.plans.specs.Names.{Named}
+use Rattle.plans.specs.Names.{NamedBefore}
 
-pub begun : (n : ℕ) (code : List ℕ) → Named n code (replicate 16 false) 0 0
+pub begun : (n : ℕ) (code : List ℕ) → NamedBefore n code (replicate 16 false) 0 0
 begun n code = record { within = zero-le; seen = []; counted = refl; few = zero-le; flags = λ t h. getD-replicate 16 t false false h; size = length-replicate 16 false; ahead = refl }
 
-module _ (n : ℕ) (code : List ℕ) (named : List Bool) (count i : ℕ) (r : Named n code named count i) where
+module _ (n : ℕ) (code : List ℕ) (named : List Bool) (count i : ℕ) (r : NamedBefore n code named count i) where
   -- at the end
   pub all-named : length code ≤ i → count ≡ n → foundOf (misnamed n [] 0 code) ≡ foundOf none
   all-named h e =
@@ -33,7 +33,7 @@ module _ (n : ℕ) (code : List ℕ) (named : List Bool) (count i : ℕ) (r : Na
 
   module _ (h : i < length code) where
     -- an FF names nothing
-    pub passed : getD code i 0 ≡ 255 → Named n code named count (i + 1)
+    pub passed : getD code i 0 ≡ 255 → NamedBefore n code named count (i + 1)
     passed e =
         record {
           within = omega arith;
@@ -59,7 +59,7 @@ module _ (n : ℕ) (code : List ℕ) (named : List Bool) (count i : ℕ) (r : Na
         repeated q = refused (rw (sym (r .flags (getD code i 0) (omega arith)) ∙ q) (and-false (ltb (getD code i 0) n)))
 
         -- a table named for the first time
-        pub named-more : getD named (getD code i 0) false ≡ false → Named n code (set named (getD code i 0) true) (count + 1) (i + 1)
+        pub named-more : getD named (getD code i 0) false ≡ false → NamedBefore n code (set named (getD code i 0) true) (count + 1) (i + 1)
         named-more q =
             record {
               within = omega arith;

@@ -1,35 +1,37 @@
 -- From a file admitted to what the code may rely on.
-use Prim.Native.Nat.{ℕ, _+_, _*_, _<_, _≤_}
-use mathlib.Core.Path.{_≡_, refl, sym, ap, _∙_}
+use Prim.Native.Nat.{ℕ, _+_, _<_, _≤_}
+use mathlib.Core.Path.{_≡_, refl, sym, ap, _∙_, fun-ext}
 use mathlib.Core.List.{List, [], _∷_, _++_, map}
 use native.Mathlib.Omega.{arith}
-use lib.ListN.{length, getD, length-map, List·getD-map}
-use Rattle.semantics.specs.Lists.{Each}
-use Rattle.semantics.specs.Files.{Table, hasBit, Fitting, read}
-use Rattle.semantics.specs.Plans.{Plan, scan, join, tables, leftmost, Small}
+use lib.ListN.{length, getD, length-append, length-map}
+use Rattle.theory.specs.Elements.{Each}
+use Rattle.semantics.specs.Files.{Table, tableWith, hasBit, read}
+use Rattle.theory.specs.Rules.{Fitting, WithinRules}
+use Rattle.semantics.specs.Plans.{Plan, scan, join, tables, leftmost}
 use Rattle.semantics.specs.Shapes.{noTable, shapeOf, scratchNeed}
-use Rattle.semantics.specs.Outcome.{admitted, verdict, WithinRules}
-use Rattle.semantics.proofs.Lists.{Each-map, Each-append, Each-of-map}
-use Rattle.semantics.proofs.Reading.{tables-few, tables-fit}
-use Rattle.semantics.proofs.Rules.{verdict-cases, rules-tables, verdict-within, verdict-rules, tables-count, rows-count}
+use Rattle.semantics.specs.Outcome.{admitted, verdict}
+use Rattle.theory.proofs.Lists.{Each-map, Each-append, Each-of-map}
+use Rattle.theory.proofs.Reading.{tables-few, tables-fit}
+use Rattle.theory.proofs.Rules.{verdict-cases, rules-tables, verdict-within, verdict-rules, tables-count, rows-count}
 use Rattle.words.specs.Arrays.{padded}
-use Rattle.words.proofs.Arrays.{padded-at, padded-length, padded-each}
+use Rattle.words.proofs.Arrays.{padded-length, padded-each}
+use Rattle.storage.specs.Layout.{storageSize, storage}
+use Rattle.storage.proofs.Sizes.{storage-le, storage-need}
 use Rattle.tables.specs.declared.Catalog.{Catalog}
-use Rattle.tables.specs.Catalogs.{catalogOf, tableWith}
-use Rattle.plans.specs.declared.schedule.Schedule.{Schedule}
+use Rattle.tables.specs.Catalogs.{catalogOf}
+use Rattle.theory.proofs.Mendable.{small-each}
+use Rattle.tables.proofs.Catalogs.{mask-at, rows-at, start-at}
 use Rattle.plans.specs.declared.admission.Verdict.the-variants as decision
-use Rattle.plans.specs.declared.admission.Admission.{Admission}
-use Rattle.plans.specs.Schedules.{joins, parentsIn, viasIn, storage, stepOf, steps, scheduleWith, scheduleOf}
-use Rattle.plans.specs.Admissions.{verdictOf, scheduleFor, admissionOf, AdmittedAs, AdmittedOf}
+use Rattle.plans.specs.Schedules.{Schedule, rowCounts, turnsIn, placementOf, placementsIn, scheduleWith, scheduleOf}
+use Rattle.plans.specs.Admissions.{verdictOf, scheduleFor, Decided, decidedOf, AdmittedAs, AdmittedOf}
 use Rattle.plans.specs.Prepared.{Sized, Prepared}
-use Rattle.plans.proofs.Growing.{steps-length, parents-length, vias-length}
-use Rattle.plans.proofs.Whole.{joins-tables, storage-le, storage-need}
-use Rattle.plans.proofs.Admitting.{mask-at, rows-at}
-use Rattle.plans.proofs.ByNumber.{schedule-steps, schedule-tables}
+use Rattle.plans.proofs.Growing.{turns-length}
+use Rattle.plans.proofs.Scheduling.{tables-some}
+use Rattle.plans.proofs.ByPosition.{schedule-joins, schedule-first}
 
 -- ---- the answer `admitted` comes with a catalog and a schedule
-pub admitted-as : (bytes : List ℕ) (words : ℕ) (a : Admission) → a ≡ admissionOf bytes words → a .verdict ≡ decision.Admitted → AdmittedOf bytes words (a .catalog) (a .schedule)
-unfolding admissionOf
+pub admitted-as : (bytes : List ℕ) (words : ℕ) (a : Decided) → a ≡ decidedOf bytes words → a .verdict ≡ decision.Admitted → AdmittedOf bytes words (a .catalog) (a .schedule)
+unfolding decidedOf
 admitted-as bytes words a e h =
     verdict-cases (verdict bytes words)
     (λ n d v. let q : decision.Refused n d ≡ decision.Admitted = sym (ap verdictOf v) ∙ sym (ap (λ x. x .verdict) e) ∙ h in let w : _≡_ {A = ℕ} 0 1 = cc in absurd (omega arith))
@@ -41,49 +43,30 @@ admitted-as bytes words a e h =
 field-length : {A : Type 0} (f : A → ℕ) (xs : List A) → length xs ≤ 16 → length (padded (map f xs)) ≡ 16
 field-length f xs h = padded-length (map f xs) (omega (arith, length-map xs f))
 
-module _ (ts : List Table) (p : Plan) (few : length ts ≤ 16) (few′ : length (tables p) ≤ 16) where
-  sized-of : (masks rows : List ℕ) → Sized (catalogOf ts) (scheduleOf masks rows p)
-  unfolding catalogOf scheduleOf scheduleWith
-  sized-of masks rows =
-      let ss = steps masks rows p 0 0 in
-      let n : length ss ≤ 16 = omega (arith, steps-length masks rows p 0 0, joins-tables p) in
-      record {
-        masks = field-length (λ t. t .mask) ts few;
-        rows = field-length (λ t. t .rows) ts few;
-        starts = field-length (λ t. t .start) ts few;
-        lefts = field-length (λ s. s .left) ss n;
-        rights = field-length (λ s. s .right) ss n;
-        keys = field-length (λ s. s .key) ss n;
-        left-tops = field-length (λ s. s .leftTop) ss n;
-        right-tops = field-length (λ s. s .rightTop) ss n;
-        places = field-length (λ s. s .place) ss n;
-        order = padded-length (tables p) few′;
-        parents = padded-length (0 ∷ parentsIn p 0) (omega (arith, parents-length p 0, joins-tables p));
-        vias = padded-length (0 ∷ viasIn p 0) (omega (arith, vias-length p 0, joins-tables p));
-      }
+sized-of : (ts : List Table) → length ts ≤ 16 → Sized (catalogOf ts)
+unfolding catalogOf
+sized-of ts few = record { masks = field-length (λ t. t .mask) ts few; rows = field-length (λ t. t .rows) ts few; starts = field-length (λ t. t .start) ts few }
 
 -- ---- what they hold is low
-vias-below : (p : Plan) (i : ℕ) → Each (λ v. v < i + joins p) (viasIn p i)
-vias-below (scan t) i = tt
-vias-below (join l r) i =
-    Each-append (λ v. v < i + (joins l + joins r + 1)) (viasIn l i) ((i + joins l + joins r) ∷ viasIn r (i + joins l)) (Each-map (λ v. v < i + joins l) (λ v. v < i + (joins l + joins r + 1)) (λ v h. omega arith) (viasIn l i) (vias-below l i))
-    (omega arith, Each-map (λ v. v < i + joins l + joins r) (λ v. v < i + (joins l + joins r + 1)) (λ v h. omega arith) (viasIn r (i + joins l)) (vias-below r (i + joins l)))
+turns-below : (p : Plan) (q : ℕ) → Each (λ i. i < q + length (tables p)) (turnsIn p q)
+turns-below (scan t) q = tt
+turns-below (join l r) q =
+    let m = q + length (tables l) in
+    let n = q + length (tables (join l r)) in
+    let e : length (tables (join l r)) ≡ length (tables l) + length (tables r) = length-append (tables l) (tables r) in
+    Each-append (λ i. i < n) (turnsIn l q) (turnsIn r m ++ (m ∷ [])) (Each-map (λ i. i < m) (λ i. i < n) (λ i h. omega (arith, e)) (turnsIn l q) (turns-below l q))
+    (Each-append (λ i. i < n) (turnsIn r m) (m ∷ []) (Each-map (λ i. i < m + length (tables r)) (λ i. i < n) (λ i h. omega (arith, e)) (turnsIn r m) (turns-below r m)) (omega (arith, e, tables-some r), tt))
 
-places-below : (masks rows : List ℕ) (p : Plan) (a i : ℕ) → Each (λ s. s .place ≤ a + storage rows p) (steps masks rows p a i)
-places-below masks rows (scan t) a i = tt
-places-below masks rows (join l r) a i =
-    let b = a + storage rows (join l r) in
-    let B = steps masks rows r (a + storage rows l) (i + joins l) in
-    let s = stepOf masks rows l r a i in
-    Each-append (λ s. s .place ≤ b) (steps masks rows l a i) (B ++ (s ∷ [])) (Each-map (λ s. s .place ≤ a + storage rows l) (λ s. s .place ≤ b) (λ s h. omega arith) (steps masks rows l a i) (places-below masks rows l a i))
-    (Each-append (λ s. s .place ≤ b) B (s ∷ []) (Each-map (λ s. s .place ≤ a + storage rows l + storage rows r) (λ s. s .place ≤ b) (λ s h. omega arith) B (places-below masks rows r (a + storage rows l) (i + joins l))) (omega arith, tt))
-
-small-tables : (p : Plan) → Small p → Each (λ t. t < 16) (tables p)
-small-tables (scan t) h = (h, tt)
-small-tables (join l r) h = Each-append (λ t. t < 16) (tables l) (tables r) (small-tables l (h .0)) (small-tables r (h .1))
-
-start-at : (ts : List Table) (i : ℕ) → getD (padded (map (λ t. t .start) ts)) i 0 ≡ (getD ts i noTable) .start
-start-at ts i = padded-at (map (λ t. t .start) ts) i ∙ List·getD-map (λ t. t .start) ts i noTable
+parents-below : (masks : List ℕ) (rows : ℕ → ℕ) (p : Plan) (q a : ℕ) → Each (λ x. x .parent < q + length (tables p)) (placementsIn masks rows p q a)
+parents-below masks rows (scan t) q a = tt
+parents-below masks rows (join l r) q a =
+    let m = q + length (tables l) in
+    let n = q + length (tables (join l r)) in
+    let e : length (tables (join l r)) ≡ length (tables l) + length (tables r) = length-append (tables l) (tables r) in
+    let L = placementsIn masks rows l q a in
+    let R = placementsIn masks rows r m (a + storage rows l) in
+    Each-append (λ x. x .parent < n) L (placementOf masks rows l r q a ∷ R) (Each-map (λ x. x .parent < m) (λ x. x .parent < n) (λ x h. omega (arith, e)) L (parents-below masks rows l q a))
+    (omega (arith, e, tables-some l), Each-map (λ x. x .parent < m + length (tables r)) (λ x. x .parent < n) (λ x h. omega (arith, e)) R (parents-below masks rows r m (a + storage rows l)))
 
 -- ---- all of it
 module _ (bytes : List ℕ) (words : ℕ) (ts : List Table) (p : Plan) (v : verdict bytes words ≡ admitted ts p) where
@@ -109,14 +92,29 @@ module _ (bytes : List ℕ) (words : ℕ) (ts : List Table) (p : Plan) (v : verd
   rows-low : (t : ℕ) → getD rows t 0 ≤ 4096
   rows-low = padded-each (λ n. n ≤ 4096) (map (λ t. t .rows) ts) (Each-of-map (λ n. n ≤ 4096) (λ t. t .rows) ts (Each-map (Fitting (length bytes)) (λ t. t .rows ≤ 4096) (λ t f. f .low) ts (rw tables-are (tables-fit bytes)))) (omega arith)
 
-  need-fits : storage rows p + 8 * getD rows (leftmost p) 0 ≤ words
+  named : length (tables p) ≤ 16
+  named = omega (arith, tables-count ts p within, few)
+
+  rows-is : rowCounts rows ≡ (shapeOf ts) .rows
+  rows-is = fun-ext rows-of
+
+  need-fits : storage (rowCounts rows) p + storageSize (getD rows (leftmost p) 0) ≤ words
   unfolding scratchNeed
-  need-fits = omega (arith, storage-need (shapeOf ts) rows (λ t h. rows-of t) p (within .small), rows-count ts p within, (verdict-rules bytes words ts p v) .1)
+  need-fits = omega (arith, ap (λ f. storage f p + storageSize (f (leftmost p))) rows-is, storage-need (shapeOf ts) p, rows-count ts p within, (verdict-rules bytes words ts p v) .1)
+
+  -- what stands at the positions of the schedule
+  parents-low : (i : ℕ) → getD ((scheduleOf masks (rowCounts rows) p) .layout .parents) i 0 < 16
+  unfolding scheduleOf scheduleWith
+  parents-low =
+      let R = placementsIn masks (rowCounts rows) p 0 0 in
+      padded-each (λ i. i < 16) (0 ∷ map (λ x. x .parent) R)
+      (omega arith, Each-of-map (λ i. i < 16) (λ x. x .parent) R (Each-map (λ x. x .parent < 0 + length (tables p)) (λ x. x .parent < 16) (λ x h. omega (arith, named)) R (parents-below masks (rowCounts rows) p 0 0)))
+      (omega arith)
 
   table-at : (t : ℕ) → tableWith (getD masks t 0) (getD rows t 0) (getD (padded (map (λ t. t .start) ts)) t 0) ≡ getD ts t noTable
-  table-at t = λ i. record { mask = mask-at ts t i; rows = rows-at ts t i; start = start-at ts t i }
+  table-at t = rw (mask-at ts t, rows-at ts t, start-at ts t)
 
-  prepared-of : Prepared bytes words (catalogOf ts) (scheduleOf masks rows p) ts p
+  prepared-of : Prepared bytes words (catalogOf ts) (scheduleOf masks (rowCounts rows) p) ts p
   unfolding catalogOf scheduleOf scheduleWith shapeOf
   prepared-of =
       record {
@@ -126,19 +124,20 @@ module _ (bytes : List ℕ) (words : ℕ) (ts : List Table) (p : Plan) (v : verd
         masks = λ t a. ap (λ m. hasBit m a) (sym (mask-at ts t));
         rows = rows-of;
         table = table-at;
-        count = steps-length masks rows p 0 0;
-        steps = schedule-steps masks rows p (omega (arith, tables-count ts p within, few));
+        count = turns-length p 0;
+        turns = refl;
         named = refl;
         order = refl;
-        positions = schedule-tables masks rows p;
+        positions = schedule-joins masks (rowCounts rows) p named;
         used = refl;
+        first = schedule-first masks (rowCounts rows) p;
         need = need-fits;
-        sized = sized-of ts p few (omega (arith, tables-count ts p within, few)) masks rows;
+        sized = sized-of ts few;
         rows-low = rows-low;
-        order-low = padded-each (λ t. t < 16) (tables p) (small-tables p (within .small)) (omega arith);
-        vias-low = padded-each (λ v. v < 16) (0 ∷ viasIn p 0) (omega arith, Each-map (λ v. v < 0 + joins p) (λ v. v < 16) (λ v h. omega (arith, joins-tables p, tables-count ts p within, few)) (viasIn p 0) (vias-below p 0)) (omega arith);
-        places-low = padded-each (λ x. x ≤ storage rows p) (map (λ s. s .place) (steps masks rows p 0 0)) (Each-of-map (λ x. x ≤ storage rows p) (λ s. s .place) (steps masks rows p 0 0) (Each-map (λ s. s .place ≤ 0 + storage rows p) (λ s. s .place ≤ storage rows p) (λ s h. omega arith) (steps masks rows p 0 0) (places-below masks rows p 0 0))) (omega arith);
-        used-low = omega (arith, storage-le rows (λ t h. rows-low t) p (within .small), joins-tables p, tables-count ts p within, few);
+        order-low = padded-each (λ t. t < 16) (tables p) (small-each p (within .small)) (omega arith);
+        turns-low = padded-each (λ i. i < 16) (turnsIn p 0) (Each-map (λ i. i < 0 + length (tables p)) (λ i. i < 16) (λ i h. omega (arith, named)) (turnsIn p 0) (turns-below p 0)) (omega arith);
+        parents-low = parents-low;
+        used-low = omega (arith, storage-le (rowCounts rows) (λ t h. rows-low t) p (within .small), named);
       }
 
 pub prepared : (bytes : List ℕ) (words : ℕ) (c : Catalog) (s : Schedule) (ts : List Table) (p : Plan) → AdmittedAs bytes words c s ts p → Prepared bytes words c s ts p

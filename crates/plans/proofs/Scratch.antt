@@ -1,6 +1,6 @@
 -- Answer 10, and the schedule that an admitted plan gets.
-use Prim.Native.Nat.{ℕ, _+_, _*_, _<_, _≤_}
-use mathlib.Core.Path.{_≡_, refl, sym, ap, ap₂, _∙_}
+use Prim.Native.Nat.{ℕ, _+_, _<_, _≤_}
+use mathlib.Core.Path.{_≡_, refl, sym, ap, ap₂, _∙_, fun-ext}
 use mathlib.Core.Bool.{true}
 use mathlib.Core.List.{List, map}
 use native.Mathlib.Omega.{arith}
@@ -8,33 +8,34 @@ use lib.ListN.{length, getD, List·getD-append}
 use borrow.Author.Tests.{lt-ltb, le-ltb}
 use Rattle.semantics.specs.Files.{Table}
 use Rattle.semantics.specs.Plans.{Plan, scan, join, tables, leftmost, planOf}
-use Rattle.semantics.specs.Shapes.{noTable, shapeOf, scratchNeed}
-use Rattle.semantics.specs.Outcome.{refused, admitted, sentVerdict, planVerdict, scratchVerdict, WithinRules}
-use Rattle.semantics.proofs.Mending.{mend-same}
-use Rattle.semantics.proofs.Mendable.{mendable-unmendable, wellBehaved-mendable}
-use Rattle.semantics.proofs.Rules.{tables-count, rows-count, plan-sent, plan-within}
+use Rattle.semantics.specs.Shapes.{shapeOf, scratchNeed}
+use Rattle.semantics.specs.Outcome.{refused, admitted, sentVerdict, planVerdict, scratchVerdict}
+use Rattle.theory.specs.Rules.{WithinRules}
+use Rattle.theory.proofs.Mending.{mend-same}
+use Rattle.theory.proofs.Mendable.{mendable-unmendable, wellBehaved-mendable, leftmost-small}
+use Rattle.theory.proofs.Rules.{tables-count, rows-count, plan-sent, plan-within}
 use Rattle.words.specs.Arrays.{padded}
 use Rattle.words.proofs.Arrays.{padded-at}
 use Rattle.tables.specs.declared.Catalog.{Catalog}
-use Rattle.plans.specs.declared.schedule.Schedule.{Schedule}
+use Rattle.tables.proofs.Catalogs.{rows-at}
 use Rattle.plans.specs.declared.admission.Verdict.the-variants as decision
 use Rattle.plans.specs.declared.admission.Check.{Check}
 use Rattle.plans.specs.declared.admission.Check.the-variants as check
-use Rattle.plans.specs.declared.admission.Admission.{Admission}
+use Rattle.storage.specs.Layout.{storageSize, storage}
+use Rattle.storage.proofs.Sizes.{storage-le, storage-need}
 use Rattle.mending.specs.Places.{PlanAt}
-use Rattle.plans.specs.Schedules.{storage, scheduleWith, scheduleOf, noSchedule, Plannable}
-use Rattle.plans.specs.Admissions.{Tabled, Catalogued, checkOf, Formable, Follows, Accepted, admissionBy, followedAdmission, planAdmission}
+use Rattle.plans.specs.Schedules.{Schedule, rowCounts, scheduleWith, scheduleOf, noSchedule, Plannable}
+use Rattle.plans.specs.Admissions.{Tabled, Catalogued, checkOf, Formable, Follows, Accepted, Decided, decidedBy, decidedFollowing, decidedPlan}
 use Rattle.plans.specs.Forming.{FormableFor}
 use Rattle.mending.proofs.Places.{spelled-stands}
 use Rattle.plans.proofs.Scheduling.{tables-some}
-use Rattle.plans.proofs.Whole.{leftmost-small, joins-tables, storage-le, storage-need}
 use Rattle.plans.proofs.Judging.{tested-behaved}
-use Rattle.plans.proofs.Admitting.{masks-are, rows-are, rows-at, rows-few, spelled-sent, Passed, check-refused, check-as-sent, check-formed}
+use Rattle.plans.proofs.Admitting.{masks-are, rows-are, rows-few, spelled-sent, Passed, check-refused, check-as-sent, check-formed}
 
 -- a refusal of the plan record
 pub refused-admission : (c : Catalog) (ts : List Table) (code : List ℕ) (n d words : ℕ) → Tabled c ts → planVerdict ts code ≡ refused n d → (free : Schedule) → free ≡ noSchedule
-    → record { verdict = decision.Refused n d; catalog = c; schedule = free } ≡ planAdmission ts code words
-unfolding planAdmission scratchVerdict
+    → record { verdict = decision.Refused n d; catalog = c; schedule = free } ≡ decidedPlan ts code words
+unfolding decidedPlan scratchVerdict
 refused-admission c ts code n d words h v free f = rw (v, scratchVerdict) (λ i. record { verdict = decision.Refused n d; catalog = h .is i; schedule = f i })
 
 -- the first table in plan order is the leftmost one
@@ -52,51 +53,53 @@ module _ (c : Catalog) (code : List ℕ) (ts : List Table) (h : Tabled c ts) (a 
   counts : (t : ℕ) → t < 16 → getD (c .rows) t 0 ≤ 4096
   counts = rw (rows-are c ts h) (rows-few ts (h .rows))
 
-  pub plannable : Plannable code (c .rows)
+  pub plannable : Plannable code (rowCounts (c .rows))
   plannable = record { plan = planOf code; stands = spelled-stands code (a .spelled); few = few; counts = counts }
 
-  module _ (s : Schedule) (made : (p : Plan) → PlanAt code 0 p (length code) → length (tables p) ≤ 16 → s ≡ scheduleOf (c .masks) (c .rows) p) where
-    schedule-is : s ≡ scheduleOf (c .masks) (c .rows) (planOf code)
+  module _ (s : Schedule) (made : (p : Plan) → PlanAt code 0 p (length code) → length (tables p) ≤ 16 → s ≡ scheduleOf (c .masks) (rowCounts (c .rows)) p) where
+    schedule-is : s ≡ scheduleOf (c .masks) (rowCounts (c .rows)) (planOf code)
     schedule-is = made (planOf code) (spelled-stands code (a .spelled)) few
 
     first-is : getD (s .order) 0 0 ≡ leftmost (planOf code)
     unfolding scheduleOf scheduleWith
     first-is = ap (λ x. getD (x .order) 0 0) schedule-is ∙ padded-at (tables (planOf code)) 0 ∙ first-table (planOf code)
 
-    used-is : s .used ≡ storage (c .rows) (planOf code)
+    used-is : s .used ≡ storage (rowCounts (c .rows)) (planOf code)
     unfolding scheduleOf scheduleWith
     used-is = ap (λ x. x .used) schedule-is
 
     first-rows : getD (c .rows) (getD (s .order) 0 0) 0 ≡ getD (c .rows) (leftmost (planOf code)) 0
     first-rows = ap (λ t. getD (c .rows) t 0) first-is
 
-    pub countable : (getD (s .order) 0 0 < 16) × (s .used + 8 * getD (c .rows) (getD (s .order) 0 0) 0 ≤ 4294967296)
-    countable =
-        let lo : leftmost (planOf code) < 16 = leftmost-small (planOf code) (within .small) in (
-          omega (arith, first-is),
-          omega (arith, first-rows, used-is, counts (leftmost (planOf code)) lo, storage-le (c .rows) counts (planOf code) (within .small), joins-tables (planOf code), few),
-        )
+    pub first-low : getD (s .order) 0 0 < 16
+    first-low = omega (arith, first-is, leftmost-small (planOf code) (within .small))
+
+    pub countable : (s .used ≤ 4294967296) × (getD (c .rows) (getD (s .order) 0 0) 0 ≤ 4096)
+    countable = (omega (arith, used-is, storage-le (rowCounts (c .rows)) counts (planOf code) (within .small), few), counts (getD (s .order) 0 0) first-low)
+
+    rows-is : rowCounts (c .rows) ≡ (shapeOf ts) .rows
+    unfolding shapeOf
+    rows-is = fun-ext (λ t. ap (λ l. getD l t 0) (rows-are c ts h) ∙ rows-at ts t)
 
     -- the words counted are document 01's need
-    need-is : s .used + 8 * getD (c .rows) (getD (s .order) 0 0) 0 ≡ scratchNeed ts (planOf code)
-    unfolding scratchNeed shapeOf
+    need-is : s .used + storageSize (getD (c .rows) (getD (s .order) 0 0) 0) ≡ scratchNeed ts (planOf code)
+    unfolding scratchNeed
     need-is =
-        let same : (t : ℕ) → t < 16 → getD (c .rows) t 0 ≡ (getD ts t noTable) .rows = λ t lt. ap (λ l. getD l t 0) (rows-are c ts h) ∙ rows-at ts t in
-        omega (arith, first-rows, used-is, storage-need (shapeOf ts) (c .rows) same (planOf code) (within .small), rows-count ts (planOf code) within)
+        omega (arith, first-rows, used-is, ap (λ f. storage f (planOf code) + storageSize (f (leftmost (planOf code)))) rows-is, storage-need (shapeOf ts) (planOf code), rows-count ts (planOf code) within)
 
-    module _ (words need : ℕ) (counted : need ≡ s .used + 8 * getD (c .rows) (getD (s .order) 0 0) 0) where
-      pub scratch-short : words < need → (free : Schedule) → free ≡ noSchedule → record { verdict = decision.Refused 10 need; catalog = c; schedule = free } ≡ followedAdmission ts (planOf code) words
-      unfolding followedAdmission scratchVerdict
+    module _ (words need : ℕ) (counted : need ≡ s .used + storageSize (getD (c .rows) (getD (s .order) 0 0) 0)) where
+      pub scratch-short : words < need → (free : Schedule) → free ≡ noSchedule → record { verdict = decision.Refused 10 need; catalog = c; schedule = free } ≡ decidedFollowing ts (planOf code) words
+      unfolding decidedFollowing scratchVerdict
       scratch-short lt free e =
           let n : need ≡ scratchNeed ts (planOf code) = counted ∙ need-is in
           rw (lt-ltb words (scratchNeed ts (planOf code)) (omega arith), scratchVerdict)
           (λ i. record { verdict = decision.Refused 10 (n i); catalog = h .is i; schedule = e i })
 
-      pub scratch-enough : need ≤ words → record { verdict = decision.Admitted; catalog = c; schedule = s } ≡ followedAdmission ts (planOf code) words
-      unfolding followedAdmission scratchVerdict
+      pub scratch-enough : need ≤ words → record { verdict = decision.Admitted; catalog = c; schedule = s } ≡ decidedFollowing ts (planOf code) words
+      unfolding decidedFollowing scratchVerdict
       scratch-enough le =
           let n : need ≡ scratchNeed ts (planOf code) = counted ∙ need-is in
-          let q : s ≡ scheduleOf (padded (map (λ t. t .mask) ts)) (padded (map (λ t. t .rows) ts)) (planOf code) = schedule-is ∙ ap₂ (λ x y. scheduleOf x y (planOf code)) (masks-are c ts h) (rows-are c ts h) in
+          let q : s ≡ scheduleOf (padded (map (λ t. t .mask) ts)) (rowCounts (padded (map (λ t. t .rows) ts))) (planOf code) = schedule-is ∙ ap₂ (λ x y. scheduleOf x (rowCounts y) (planOf code)) (masks-are c ts h) (rows-are c ts h) in
           rw (le-ltb words (scratchNeed ts (planOf code)) (omega arith), scratchVerdict)
           (λ i. record { verdict = decision.Admitted; catalog = h .is i; schedule = q i })
 
@@ -122,9 +125,9 @@ module _ (c : Catalog) (code : List ℕ) (r : Check) (checked : (ts : List Table
     pub accepted : Catalogued c → Accepted code c
     accepted q = record { ts = q .ts; tabled = q .tabled; follows = follows (q .ts) (q .tabled) }
 
-    pub as-sent : (ts : List Table) → Tabled c ts → (words : ℕ) (a : Admission) → a ≡ followedAdmission ts (planOf code) words → a ≡ planAdmission ts code words
-    unfolding followedAdmission planAdmission
-    as-sent ts h words a q = q ∙ ap (λ v. admissionBy ts (scratchVerdict words v)) (sym ((as-sent-follows ts h) .1))
+    pub as-sent : (ts : List Table) → Tabled c ts → (words : ℕ) (a : Decided) → a ≡ decidedFollowing ts (planOf code) words → a ≡ decidedPlan ts code words
+    unfolding decidedFollowing decidedPlan
+    as-sent ts h words a q = q ∙ ap (λ v. decidedBy ts (scratchVerdict words v)) (sym ((as-sent-follows ts h) .1))
 
   pub formable : r ≡ check.Formed → (ts : List Table) → Tabled c ts → Formable code ts
   formable e ts h = check-formed ts code (sym e ∙ checked ts h)
@@ -133,5 +136,5 @@ module _ (c : Catalog) (code : List ℕ) (r : Check) (checked : (ts : List Table
   formable-for e q = record { ts = q .ts; tabled = q .tabled; formable = formable e (q .ts) (q .tabled) }
 
   pub plan-refused : (n d words : ℕ) → r ≡ check.Refused n d → (free : Schedule) → free ≡ noSchedule → (ts : List Table) → Tabled c ts
-      → record { verdict = decision.Refused n d; catalog = c; schedule = free } ≡ planAdmission ts code words
+      → record { verdict = decision.Refused n d; catalog = c; schedule = free } ≡ decidedPlan ts code words
   plan-refused n d words e free f ts h = refused-admission c ts code n d words h (check-refused ts code n d (sym e ∙ checked ts h)) free f

@@ -3,8 +3,8 @@
 use mathlib.Core.Path.{_≡_, refl, sym, ap, ap₂, _∙_, fun-ext}
 use mathlib.Core.Bool.{Bool, true, not}
 use mathlib.Core.List.{List, [], _∷_}
-use mathlib.Core.Option.{none, some}
-use Prim.Native.Nat.{ℕ, zero, suc, _+_, _≤_, _<_, _^_}
+use mathlib.Core.Option.{none}
+use Prim.Native.Nat.{ℕ, zero, suc, _≤_, _<_, _^_}
 use native.Mathlib.Omega.{arith}
 use lib.ListN.{length, getD}
 use lib.Dec.{eqb, ltb}
@@ -13,16 +13,16 @@ use Rattle.semantics.specs.Lists.{filter, from}
 use Rattle.semantics.specs.Files.{Table, hasBit}
 use Rattle.semantics.specs.Plans.{encode, tables, misplaced, planOf, misnamed}
 use Rattle.semantics.specs.Shapes.{noTable, shapeOf}
-use Rattle.semantics.specs.Details.{Once}
+use Rattle.theory.specs.Details.{Once}
 use Rattle.semantics.specs.Mending.{mend, unmendable}
 use Rattle.semantics.specs.Outcome.{refused, admitted, sentVerdict, planVerdict}
-use Rattle.semantics.proofs.Cases.{cases}
-use Rattle.semantics.proofs.Lists.{sum-one}
-use Rattle.semantics.proofs.Numbers.{length-from}
-use Rattle.semantics.proofs.Spelling.{plan-length, spelled-out}
-use Rattle.semantics.proofs.Naming.{plan-names, plan-sum}
-use Rattle.semantics.proofs.Mending.{sums-once}
-use Rattle.semantics.proofs.Rules.{plan-sent}
+use Rattle.theory.proofs.Cases.{cases}
+use Rattle.theory.proofs.Lists.{sum-one, each-at}
+use Rattle.theory.proofs.Numbers.{length-from}
+use Rattle.theory.proofs.Spelling.{plan-length, spelled-out}
+use Rattle.theory.proofs.Naming.{plan-names, plan-sum}
+use Rattle.theory.proofs.Mending.{sums-once}
+use Rattle.theory.proofs.Rules.{plan-sent}
 use Rattle.mending.specs.Parts.{shapeIn}
 use Rattle.mending.specs.Rooting.{Distinct}
 use Rattle.mending.specs.Lacking.{foundOf}
@@ -32,9 +32,10 @@ use Rattle.mending.specs.declared.lacking.Found.the-variants as found
 use Rattle.mending.proofs.Places.{spelled-stands}
 use Rattle.mending.proofs.Lacks.{found-none, found-at}
 use Rattle.tables.specs.declared.Catalog.{Catalog}
+use Rattle.tables.proofs.Catalogs.{mask-at, rows-at}
 use Rattle.plans.specs.Admissions.{Tabled, Named, NamedFor}
 use Rattle.plans.specs.Forming.{PlanIn}
-use Rattle.plans.proofs.Admitting.{each-at, mask-at, rows-at, masks-are, rows-are, spelled-sent}
+use Rattle.plans.proofs.Admitting.{masks-are, rows-are, spelled-sent}
 
 -- ---- 16 tables named once each have a plan of 31 bytes at most
 code-short : (n : ℕ) (code : List ℕ) → n ≤ 16 → misplaced 1 0 code ≡ none → misnamed n [] 0 code ≡ none → length code ≤ 31
@@ -101,8 +102,8 @@ module _ (c : Catalog) (ts : List Table) (h : Tabled c ts) where
           stands = spelled-stands code (n .spelled);
           short = code-short (length ts) code (h .few) (n .spelled) (n .named);
           distinct = distinct (length ts) code (n .spelled) (n .named);
-          words = λ t. rw (mask-is t) (each-at (λ t. t .mask < 2 ^ 32) ts (h .masks) (omega arith) t);
-          few = λ t. rw (rows-is t) (each-at (λ t. t .rows ≤ 4096) ts (h .rows) (omega arith) t);
+          words = λ t. rw (mask-is t) (each-at (λ t. t .mask < 2 ^ 32) ts noTable (h .masks) (omega arith) t);
+          few = λ t. rw (rows-is t) (each-at (λ t. t .rows ≤ 4096) ts noTable (h .rows) (omega arith) t);
         }
 
     module _ (before out : List ℕ) (r : Found) (m : Mends (shapeIn (c .masks) (c .rows)) (planOf code) (length code) before out r) where

@@ -1,23 +1,20 @@
 -- Answers 1 to 10 and 14 for a file: what the reading gave, and then what its plan comes to.
-use Prim.Native.Nat.{ℕ, _-_, _<_, _≤_, _^_}
-use mathlib.Core.Path.{_≡_, refl, sym, ap, _∙_}
+use Prim.Native.Nat.{ℕ, _-_, _≤_}
+use mathlib.Core.Path.{_≡_, sym, ap, _∙_}
 use mathlib.Core.List.{List}
 use native.Mathlib.Omega.{arith}
-use native.Mathlib.Nat.{sub-le}
 use lib.ListN.{length, drop}
-use Rattle.semantics.specs.Lists.{Each}
-use Rattle.semantics.specs.Files.{Bytes, Table, Fitting, Ending, fault, planBytes, read}
-use Rattle.semantics.specs.Outcome.{Verdict, refused, admitted, planVerdict, readVerdict, rulesVerdict, scratchVerdict, verdict}
-use Rattle.semantics.proofs.Lists.{Each-map}
-use Rattle.semantics.proofs.Reading.{ending-cases, tables-few, tables-fit, tables-masks, plan-last}
+use Rattle.theory.specs.Rules.{Bytes, Fitting}
+use Rattle.semantics.specs.Files.{Table, read}
+use Rattle.semantics.specs.Outcome.{readVerdict, rulesVerdict, scratchVerdict, verdict}
+use Rattle.theory.proofs.Lists.{Each-map}
+use Rattle.theory.proofs.Reading.{ending-cases, tables-few, tables-fit, tables-masks, plan-last}
 use Rattle.tables.specs.declared.Contents.{Contents}
 use Rattle.tables.specs.declared.End.the-variants as end
 use Rattle.tables.specs.Catalogs.{catalogOf, endOf, contentsOf}
-use Rattle.plans.specs.declared.schedule.Schedule.{Schedule}
 use Rattle.plans.specs.declared.admission.Verdict.the-variants as decision
-use Rattle.plans.specs.declared.admission.Admission.{Admission}
-use Rattle.plans.specs.Schedules.{noSchedule}
-use Rattle.plans.specs.Admissions.{Tabled, Catalogued, verdictOf, scheduleFor, planAdmission, admissionOf}
+use Rattle.plans.specs.Schedules.{Schedule, noSchedule}
+use Rattle.plans.specs.Admissions.{Tabled, Catalogued, Decided, decidedPlan, decidedOf}
 
 module _ (file : List ℕ) (contents : Contents) (was : contents ≡ contentsOf file) where
   catalog-is : contents .catalog ≡ catalogOf ((read file) .tables)
@@ -41,8 +38,8 @@ module _ (file : List ℕ) (contents : Contents) (was : contents ≡ contentsOf 
   catalogued b = record { ts = (read file) .tables; tabled = tabled b }
 
   -- the reading ends in a fault
-  pub file-refused : (n d words : ℕ) → contents .end ≡ end.Fault n d → (free : Schedule) → free ≡ noSchedule → record { verdict = decision.Refused n d; catalog = contents .catalog; schedule = free } ≡ admissionOf file words
-  unfolding admissionOf verdict rulesVerdict readVerdict scratchVerdict
+  pub file-refused : (n d words : ℕ) → contents .end ≡ end.Fault n d → (free : Schedule) → free ≡ noSchedule → record { verdict = decision.Refused n d; catalog = contents .catalog; schedule = free } ≡ decidedOf file words
+  unfolding decidedOf verdict rulesVerdict readVerdict scratchVerdict
   file-refused n d words e free f =
       ending-cases ((read file) .ending)
       (λ m k g.
@@ -62,8 +59,8 @@ module _ (file : List ℕ) (contents : Contents) (was : contents ≡ contentsOf 
       (λ m k g. let q : end.Plan at ≡ end.Fault m k = sym e ∙ end-is ∙ ap (endOf (length file)) g in let z : _≡_ {A = ℕ} 0 1 = cc in absurd (omega arith))
       (λ code g. let q : end.Plan at ≡ end.Plan (length file - length code) = sym e ∙ end-is ∙ ap (endOf (length file)) g in let a : at ≡ length file - length code = cc in omega arith)
 
-  pub file-planned : Bytes file → (at words : ℕ) → contents .end ≡ end.Plan at → (r : Admission) → ((ts : List Table) → Tabled (contents .catalog) ts → r ≡ planAdmission ts (drop at file) words) → r ≡ admissionOf file words
-  unfolding admissionOf planAdmission verdict rulesVerdict readVerdict
+  pub file-planned : Bytes file → (at words : ℕ) → contents .end ≡ end.Plan at → (r : Decided) → ((ts : List Table) → Tabled (contents .catalog) ts → r ≡ decidedPlan ts (drop at file) words) → r ≡ decidedOf file words
+  unfolding decidedOf decidedPlan verdict rulesVerdict readVerdict
   file-planned b at words e r f =
       ending-cases ((read file) .ending)
       (λ m k g. let q : end.Plan at ≡ end.Fault m k = sym e ∙ end-is ∙ ap (endOf (length file)) g in let z : _≡_ {A = ℕ} 0 1 = cc in absurd (omega arith))

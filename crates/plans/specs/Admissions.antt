@@ -6,23 +6,23 @@ use mathlib.Core.Option.{none, some}
 use Prim.Native.Nat.{ℕ, _<_, _≤_, _^_}
 use lib.ListN.{length}
 use lib.Dec.{eqb, ltb}
-use Rattle.semantics.specs.Lists.{Each}
+use Rattle.theory.specs.Elements.{Each}
 use Rattle.semantics.specs.Files.{Table, read}
 use Rattle.semantics.specs.Plans.{Plan, misplaced, planOf, misnamed}
 use Rattle.semantics.specs.Shapes.{shapeOf}
-use Rattle.semantics.specs.Outcome.{Verdict, refused, admitted, asksForPlan, planVerdict, scratchVerdict, verdict, WithinRules}
+use Rattle.semantics.specs.Outcome.{Verdict, refused, admitted, asksForPlan, planVerdict, scratchVerdict, verdict}
+use Rattle.theory.specs.Rules.{WithinRules}
 use Rattle.words.specs.Arrays.{padded}
 use Rattle.tables.specs.declared.Catalog.{Catalog}
 use Rattle.tables.specs.Catalogs.{catalogOf}
-use Rattle.plans.specs.declared.schedule.Schedule.{Schedule}
+use Rattle.plans.specs.declared.schedule.Extent.{Extent}
 use Rattle.plans.specs.declared.admission.Verdict.{Verdict as Decision}
 use Rattle.plans.specs.declared.admission.Verdict.the-variants as decision
 use Rattle.plans.specs.declared.admission.Check.{Check}
 use Rattle.plans.specs.declared.admission.Check.the-variants as check
 use Rattle.plans.specs.declared.admission.Ruling.{Ruling}
-use Rattle.plans.specs.declared.admission.Admission.{Admission}
 use Rattle.plans.specs.Judging.{wellBehaved}
-use Rattle.plans.specs.Schedules.{scheduleIn, noSchedule, scheduleOf}
+use Rattle.plans.specs.Schedules.{Schedule, scheduleIn, rowCounts, noSchedule, scheduleOf}
 
 -- the catalog holds these tables, as a file within the rules has them
 pub record Tabled (c : Catalog) (ts : List Table) : Type 0 where
@@ -88,51 +88,65 @@ verdictOf (admitted ts p) = decision.Admitted
 -- the schedule of an admitted plan
 abbrev pub scheduleFor : Verdict → Schedule
 scheduleFor (refused n d) = noSchedule
-scheduleFor (admitted ts p) = scheduleOf (padded (map (λ t. t .mask) ts)) (padded (map (λ t. t .rows) ts)) p
+scheduleFor (admitted ts p) = scheduleOf (padded (map (λ t. t .mask) ts)) (rowCounts (padded (map (λ t. t .rows) ts))) p
 
 -- a refusal, with nothing scheduled
 abbrev pub refusalOf : ℕ → ℕ → Ruling
-refusalOf n d = record { verdict = decision.Refused n d; counts = record { joins = 0; tables = 0; used = 0 } }
+refusalOf n d = record { verdict = decision.Refused n d; extent = record { joins = 0; tables = 0; used = 0 } }
 
--- the admission that a ruling gives with the catalog, and with the schedule that stands in these lists
-abbrev pub admissionIn : Ruling → Catalog → List ℕ → List (List ℕ) → Admission
-admissionIn r c keys lists = record { verdict = r .verdict; catalog = c; schedule = scheduleIn (r .counts) keys lists }
+-- what is decided: the verdict, the catalog of the tables read before it, and the schedule of an admitted plan
+pub record Decided : Type 0 where
+  pub verdict : Decision
+  pub catalog : Catalog
+  pub schedule : Schedule
 
--- the admission of a verdict on these tables
-abbrev pub admissionBy : List Table → Verdict → Admission
-admissionBy ts v = record { verdict = verdictOf v; catalog = catalogOf ts; schedule = scheduleFor v }
+-- where a schedule of that extent stands in keys and lists
+abbrev pub decidedIn : Decision → Catalog → Extent → List ℕ → List (List ℕ) → Decided
+decidedIn v c e keys lists = record { verdict = v; catalog = c; schedule = scheduleIn e keys lists }
+
+-- by a verdict on these tables
+abbrev pub decidedBy : List Table → Verdict → Decided
+decidedBy ts v = record { verdict = verdictOf v; catalog = catalogOf ts; schedule = scheduleFor v }
 
 -- answer 10 for a plan that the join follows and a scratch of that many words
-unfoldable pub followedAdmission : List Table → Plan → ℕ → Admission
-followedAdmission ts p words = admissionBy ts (scratchVerdict words (admitted ts p))
+unfoldable pub decidedFollowing : List Table → Plan → ℕ → Decided
+decidedFollowing ts p words = decidedBy ts (scratchVerdict words (admitted ts p))
 
 -- the answers 7 to 10 and 14 for the plan's bytes, the tables of a file and a scratch of that many words
-unfoldable pub planAdmission : List Table → List ℕ → ℕ → Admission
-planAdmission ts code words = admissionBy ts (scratchVerdict words (planVerdict ts code))
+unfoldable pub decidedPlan : List Table → List ℕ → ℕ → Decided
+decidedPlan ts code words = decidedBy ts (scratchVerdict words (planVerdict ts code))
 
 -- a ruling, with the schedule that stands in these lists, is: that of the plan that the bytes spell, where the join can follow it; of
 -- the plan record, where a plan is to be formed; of the plan record
 abbrev pub FollowedBy : Catalog → List ℕ → ℕ → Ruling → List ℕ → List (List ℕ) → Type 0
-FollowedBy c code words r keys lists = (ts : List Table) → Tabled c ts → Follows code ts → admissionIn r c keys lists ≡ followedAdmission ts (planOf code) words
+FollowedBy c code words r keys lists =
+    (ts : List Table) → Tabled c ts → Follows code ts
+    → decidedIn (r .verdict) c (r .extent) keys lists ≡ decidedFollowing ts (planOf code) words
 
 abbrev pub FormedBy : Catalog → List ℕ → ℕ → Ruling → List ℕ → List (List ℕ) → Type 0
-FormedBy c code words r keys lists = (ts : List Table) → Tabled c ts → Formable code ts → admissionIn r c keys lists ≡ planAdmission ts code words
+FormedBy c code words r keys lists =
+    (ts : List Table) → Tabled c ts → Formable code ts → decidedIn (r .verdict) c (r .extent) keys lists ≡ decidedPlan ts code words
 
 abbrev pub RuledBy : Catalog → List ℕ → ℕ → Ruling → List ℕ → List (List ℕ) → Type 0
-RuledBy c code words r keys lists = (ts : List Table) → Tabled c ts → admissionIn r c keys lists ≡ planAdmission ts code words
+RuledBy c code words r keys lists =
+    (ts : List Table) → Tabled c ts → decidedIn (r .verdict) c (r .extent) keys lists ≡ decidedPlan ts code words
 
 -- the answers 1 to 10 and 14, or the catalog and the schedule
-unfoldable pub admissionOf : List ℕ → ℕ → Admission
-admissionOf bytes words =
-    record { verdict = verdictOf (verdict bytes words); catalog = catalogOf ((read bytes) .tables); schedule = scheduleFor (verdict bytes words) }
+unfoldable pub decidedOf : List ℕ → ℕ → Decided
+decidedOf bytes words =
+    record {
+      verdict = verdictOf (verdict bytes words);
+      catalog = catalogOf ((read bytes) .tables);
+      schedule = scheduleFor (verdict bytes words);
+    }
 
 -- the file is admitted, with the tables ts and the plan p, and c and s are its catalog and its schedule
 pub record AdmittedAs (bytes : List ℕ) (words : ℕ) (c : Catalog) (s : Schedule) (ts : List Table) (p : Plan) : Type 0 where
   pub accepted : verdict bytes words ≡ admitted ts p
   pub catalog : c ≡ catalogOf ts
-  pub schedule : s ≡ scheduleOf (padded (map (λ t. t .mask) ts)) (padded (map (λ t. t .rows) ts)) p
+  pub schedule : s ≡ scheduleOf (padded (map (λ t. t .mask) ts)) (rowCounts (padded (map (λ t. t .rows) ts))) p
 
--- it is so for some tables and some plan
+-- the file is admitted, with some tables and some plan
 pub record AdmittedOf (bytes : List ℕ) (words : ℕ) (c : Catalog) (s : Schedule) : Type 0 where
   pub ts : List Table
   pub plan : Plan

@@ -3,12 +3,12 @@ use mathlib.Core.Path.{_≡_}
 use mathlib.Core.Bool.{Bool, true, _&&_}
 use mathlib.Core.List.{List}
 use Prim.Native.Nat.{ℕ, _<_, _^_}
-use lib.ListN.{getD}
 use lib.Dec.{eqb}
 use lib.Bits.{bitAnd, bitOr}
 use Rattle.semantics.specs.Files.{hasBit}
 use Rattle.semantics.specs.Plans.{Plan, scan, join, leftmost}
-use Rattle.semantics.specs.Shapes.{Shape, holds, behaves}
+use Rattle.semantics.specs.Shapes.{Shape, holds}
+use Rattle.theory.specs.Rules.{behaves}
 use Rattle.words.specs.Masks.{Masked}
 use Rattle.plans.specs.declared.behaviour.Subplan.{Subplan}
 
@@ -20,11 +20,18 @@ wellBehaved S (join l r) = behaves S l r && (wellBehaved S l && wellBehaved S r)
 -- the same of the join of two plans, whose leftmost tables have the masks m and n
 unfoldable pub behavesBy : Subplan → Subplan → ℕ → ℕ → Bool
 behavesBy l r m n =
-    eqb (bitAnd (bitAnd (l .attributes) (r .attributes)) (bitAnd m n)) (bitAnd (l .attributes) (r .attributes)) && (l .behaved && r .behaved)
+    eqb (bitAnd (bitAnd (l .attributes) (r .attributes)) (bitAnd m n)) (bitAnd (l .attributes) (r .attributes))
+    && (l .behaved && r .behaved)
 
 -- the join of two plans whose leftmost tables have these masks
 abbrev pub joinedOf : Subplan → Subplan → ℕ → ℕ → Subplan
-joinedOf l r m n = record { attributes = bitOr (l .attributes) (r .attributes); leftmost = l .leftmost; next = r .next; behaved = behavesBy l r m n }
+joinedOf l r m n =
+    record {
+      attributes = bitOr (l .attributes) (r .attributes);
+      leftmost = l .leftmost;
+      next = r .next;
+      behaved = behavesBy l r m n;
+    }
 
 -- what the tables of the shape make of the plan p
 pub record Ruled (S : Shape) (p : Plan) (r : Subplan) : Type 0 where

@@ -3,6 +3,6 @@ pub mod Names
 pub mod Judging
 pub mod Schedules
 pub mod Admissions
-pub mod ByNumber
+pub mod ByPosition
 pub mod Prepared
 pub mod Forming

@@ -9,7 +9,7 @@ use Rattle.semantics.specs.Lists.{any}
 use Rattle.semantics.specs.Plans.{misnamed}
 
 -- before index i, with n tables: which are named, and how many
-pub record Named (n : ℕ) (code : List ℕ) (named : List Bool) (count i : ℕ) : Type 0 where
+pub record NamedBefore (n : ℕ) (code : List ℕ) (named : List Bool) (count i : ℕ) : Type 0 where
   pub within : i ≤ length code
   pub seen : List ℕ
   pub counted : count ≡ length seen

@@ -4,8 +4,8 @@ ghost use mathlib.Core.Path.{_≡_};
 ghost use mathlib.Core.List.{List};
 ghost use Prim.Native.Nat.{_<_};
 ghost use Rattle.semantics.specs.Files.{Table};
-ghost use Rattle.plans.specs.Admissions.{Tabled, Catalogued, asksFor, checkOf, Accepted, refusalOf, admissionIn, admissionOf};
-ghost use Rattle.plans.specs.Admissions.{FollowedBy, FormedBy, RuledBy};
+ghost use Rattle.plans.specs.Admissions.{Tabled, Catalogued, asksFor, checkOf, Accepted, refusalOf, decidedIn, decidedOf, FollowedBy};
+ghost use Rattle.plans.specs.Admissions.{FormedBy, RuledBy};
 ghost use Rattle.plans.specs.Forming.{FormableFor};
 ghost use Rattle.plans.specs.Schedules.{Blank};
 ghost use Rattle.tables.specs.Catalogs.{contentsOf};
@@ -13,10 +13,8 @@ use crate::behaviour::is_well_behaved;
 use crate::forming::Formed;
 use crate::forming::formed_plan;
 use crate::naming::first_misnamed;
-use crate::schedule::Counts;
+use crate::schedule::Extent;
 use crate::schedule::ORDER;
-use crate::schedule::Schedule;
-use crate::schedule::schedule_in;
 use crate::schedule::schedule_of;
 use crate::schedule::words_needed;
 use crate::spelling::first_misplaced;
@@ -39,17 +37,17 @@ pub enum Check {
     Formed,
 }
 
-// The verdict; the tables read before it; and, where the file is admitted, the schedule of its plan.
+// The verdict; the tables read before it; and how much is scheduled: nothing where the file is refused.
 pub struct Admission {
     pub verdict: Verdict,
     pub catalog: Catalog,
-    pub schedule: Schedule,
+    pub extent: Extent,
 }
 
 // The verdict, and how much is scheduled: nothing where the file is refused.
 pub struct Ruling {
     pub verdict: Verdict,
-    pub counts: Counts,
+    pub extent: Extent,
 }
 
 // A refusal, with nothing scheduled.
@@ -58,7 +56,7 @@ fn refusal(number: u32, detail: usize) -> Ruling
 {
     Ruling {
         verdict: Verdict::Refused(number, detail),
-        counts: Counts {
+        extent: Extent {
             joins: 0,
             tables: 0,
             used: 0,
@@ -105,23 +103,24 @@ fn with_scratch(
     catalog: Catalog,
     words: usize,
     keys: &mut [u32; 16],
-    lists: &mut [[usize; 16]; 8],
+    lists: &mut [[usize; 16]; 10],
 ) -> Ruling
     requires { ⌜ Accepted (now code) catalog × Blank (now keys) (now lists) ⌝ }
     ensures { λ r. ⌜ FollowedBy catalog (now (code .entry)) words r (now (keys .exit)) (now (lists .exit)) ⌝ }
 {
     let masks = catalog.masks;
     let rows = catalog.rows;
-    let counts = schedule_of(code, &masks, &rows, &mut *keys, &mut *lists);
-    let need = words_needed(counts.used, lists[ORDER][0], &rows);
+    let extent = schedule_of(code, &masks, &rows, &mut *keys, &mut *lists);
+    let first = lists[ORDER][0];
+    let need = words_needed(extent.used, rows[first]);
     if words < need {
         *keys = [0u32; 16];
-        *lists = [[0usize; 16]; 8];
+        *lists = [[0usize; 16]; 10];
         return refusal(10, need);
     }
     Ruling {
         verdict: Verdict::Admitted,
-        counts,
+        extent,
     }
 }
 
@@ -131,7 +130,7 @@ fn with_formed(
     catalog: Catalog,
     words: usize,
     keys: &mut [u32; 16],
-    lists: &mut [[usize; 16]; 8],
+    lists: &mut [[usize; 16]; 10],
 ) -> Ruling
     requires { ⌜ FormableFor (now code) catalog × Blank (now keys) (now lists) ⌝ }
     ensures { λ r. ⌜ FormedBy catalog (now (code .entry)) words r (now (keys .exit)) (now (lists .exit)) ⌝ }
@@ -150,7 +149,7 @@ fn admit_plan(
     catalog: Catalog,
     words: usize,
     keys: &mut [u32; 16],
-    lists: &mut [[usize; 16]; 8],
+    lists: &mut [[usize; 16]; 10],
 ) -> Ruling
     requires { ⌜ Catalogued catalog × Blank (now keys) (now lists) ⌝ }
     ensures { λ r. ⌜ RuledBy catalog (now (code .entry)) words r (now (keys .exit)) (now (lists .exit)) ⌝ }
@@ -169,10 +168,13 @@ fn rule(
     contents: Contents,
     words: usize,
     keys: &mut [u32; 16],
-    lists: &mut [[usize; 16]; 8],
+    lists: &mut [[usize; 16]; 10],
 ) -> Ruling
     requires { ⌜ (contents ≡ contentsOf (now file)) × Blank (now keys) (now lists) ⌝ }
-    ensures { λ r. ⌜ admissionIn r (contents .catalog) (now (keys .exit)) (now (lists .exit)) ≡ admissionOf (now (file .entry)) words ⌝ }
+    ensures { λ r. ⌜
+        decidedIn (r .verdict) (contents .catalog) (r .extent) (now (keys .exit)) (now (lists .exit))
+        ≡ decidedOf (now (file .entry)) words
+        ⌝ }
 {
     let catalog = contents.catalog;
     let end = contents.end;
@@ -182,21 +184,27 @@ fn rule(
     }
 }
 
-// Answers 1 to 10 and 14 for a file and a scratch of that many words, or the catalog and the schedule. The admission is made here and
-// nowhere else, so that catalog and schedule are copied once.
-pub fn admit(file: &[u8], words: usize) -> Admission
-    ensures { λ r. ⌜ r ≡ admissionOf (now (file .entry)) words ⌝ }
+// Answers 1 to 10 and 14 for a file and a scratch of that many words, or the catalog, and the schedule in keys and lists. These are 0
+// before, and where the file is refused.
+pub fn admit(
+    file: &[u8],
+    words: usize,
+    keys: &mut [u32; 16],
+    lists: &mut [[usize; 16]; 10],
+) -> Admission
+    requires { ⌜ Blank (now keys) (now lists) ⌝ }
+    ensures { λ r. ⌜
+        decidedIn (r .verdict) (r .catalog) (r .extent) (now (keys .exit)) (now (lists .exit)) ≡ decidedOf (now (file .entry)) words
+        ⌝ }
 {
     let contents = tables::read(file);
     let catalog = contents.catalog;
-    let mut keys = [0u32; 16];
-    let mut lists = [[0usize; 16]; 8];
-    let ruling = rule(file, contents, words, &mut keys, &mut lists);
+    let ruling = rule(file, contents, words, keys, lists);
     let verdict = ruling.verdict;
-    let schedule = schedule_in(ruling.counts, &keys, &lists);
+    let extent = ruling.extent;
     Admission {
         verdict,
         catalog,
-        schedule,
+        extent,
     }
 }

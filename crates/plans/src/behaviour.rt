@@ -70,7 +70,10 @@ fn judge(code: &[u8], masks: &[u32; 16], at: usize) -> Subplan
 // Whether the plan that the bytes spell is well-behaved.
 pub(crate) fn is_well_behaved(code: &[u8], masks: &[u32; 16]) -> bool
     requires { ⌜ Planned (now code) 0 ⌝ }
-    ensures { λ r. ⌜ ((S : Shape) → Masked (now (masks .entry)) S → (p : Plan) → PlanAt (now (code .entry)) 0 p (length (now (code .entry))) → r ≡ wellBehaved S p) ⌝ }
+    ensures { λ r. ⌜
+        ((S : Shape) → Masked (now (masks .entry)) S
+        → (p : Plan) → PlanAt (now (code .entry)) 0 p (length (now (code .entry))) → r ≡ wellBehaved S p)
+        ⌝ }
 {
     let whole = judge(code, masks, 0);
     whole.behaved

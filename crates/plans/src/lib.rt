@@ -11,4 +11,7 @@ mod spelling;
 pub use admission::Admission;
 pub use admission::Verdict;
 pub use admission::admit;
-pub use schedule::Schedule;
+pub use schedule::Extent;
+pub use schedule::ORDER;
+pub use schedule::RIGHT_TOPS;
+pub use schedule::TURNS;

@@ -1,7 +1,7 @@
 // Answer 8: each table is named exactly once.
 ghost use mathlib.Core.Path.{_≡_};
 ghost use mathlib.Core.List.{[]};
-ghost use Prim.Native.Nat.{ℕ, _+_, _<_, _≤_};
+ghost use Prim.Native.Nat.{_<_, _≤_};
 ghost use Rattle.semantics.specs.Plans.{misnamed};
 ghost use Rattle.mending.specs.Lacking.{foundOf};
 use mending::Found;

@@ -1,7 +1,6 @@
 // Answer 7: the bytes spell one plan.
 ghost use mathlib.Core.Path.{_≡_};
-ghost use Prim.Native.Nat.{ℕ, suc, _+_, _<_, _≤_};
-ghost use mathlib.Core.List.{[]};
+ghost use Prim.Native.Nat.{_+_, _<_};
 ghost use Rattle.semantics.specs.Plans.{misplaced};
 ghost use Rattle.mending.specs.Lacking.{foundOf};
 ghost use Rattle.plans.specs.Spelling.{PlanRead};

@@ -5,7 +5,7 @@
 ghost use Rattle.report.specs.Calls.{Called};
 
 // An answer as numbers.
-struct Figures {
+struct Numbers {
     number: u32,
     detail: usize,
     rows: usize,
@@ -98,15 +98,15 @@ fn write(text: &[u8; 4096], end: usize) {
     }
 }
 
-fn print_joined(file: &[u8], output: &[u32], figures: Figures) {
+fn print_joined(file: &[u8], output: &[u32], numbers: Numbers) {
     let mut text = [0u8; 4096];
-    let start = put_line(&mut text, 0, b"rows", &[figures.rows as u64]);
-    let end = put_rows(&mut text, start, output, figures.rows, tables::width(file));
+    let start = put_line(&mut text, 0, b"rows", &[numbers.rows as u64]);
+    let end = put_rows(&mut text, start, output, numbers.rows, tables::width(file));
     let counts = [
-        figures.entries,
-        figures.lookups,
-        figures.comparisons,
-        figures.visits,
+        numbers.entries,
+        numbers.lookups,
+        numbers.comparisons,
+        numbers.visits,
     ];
     let end = put_line(&mut text, end, b"steps", &counts);
     write(&text, end);
@@ -119,9 +119,9 @@ pub fn refuse(number: u32, detail: usize) {
     write(&text, end);
 }
 
-fn figures_of(answer: join::Answer) -> Figures {
+fn numbers_of(answer: join::Answer) -> Numbers {
     match answer {
-        join::Answer::Joined(rows, entries, lookups, comparisons, visits) => Figures {
+        join::Answer::Joined(rows, entries, lookups, comparisons, visits) => Numbers {
             number: 0,
             detail: 0,
             rows,
@@ -130,7 +130,7 @@ fn figures_of(answer: join::Answer) -> Figures {
             comparisons,
             visits,
         },
-        join::Answer::Refused(number, detail) => Figures {
+        join::Answer::Refused(number, detail) => Numbers {
             number,
             detail,
             rows: 0,
@@ -146,11 +146,11 @@ fn figures_of(answer: join::Answer) -> Figures {
 pub fn report(file: &[u8], scratch: &mut [u32], output: &mut [u32])
     ensures { λ _. ⌜ Called (now (file .entry)) (now (scratch .entry)) (now (output .entry)) (now (scratch .exit)) (now (output .exit)) ⌝ }
 {
-    let figures = figures_of(join::join(file, scratch, output));
-    let number = figures.number;
+    let numbers = numbers_of(join::join(file, scratch, output));
+    let number = numbers.number;
     match number {
-        0 => print_joined(file, output, figures),
-        1..=12 | 14 => refuse(number, figures.detail),
+        0 => print_joined(file, output, numbers),
+        1..=12 | 14 => refuse(number, numbers.detail),
         _ => {
             io::write_all(1, b"no such answer\n");
         }

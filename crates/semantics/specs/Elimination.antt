@@ -4,11 +4,10 @@ use mathlib.Core.List.{List, [], _∷_}
 use mathlib.Core.Option.{Option, none, some}
 use Prim.Native.Nat.{ℕ, zero, suc, _-_}
 use lib.Dec.{eqb}
-use Rattle.semantics.specs.Lists.{any, all, filter, first, upTo}
+use Rattle.semantics.specs.Lists.{any, all, filter, first, upTo, headOf}
 use Rattle.semantics.specs.Plans.{Plan, scan}
 use Rattle.semantics.specs.Shapes.{Shape, attributes}
 use Rattle.semantics.specs.JoinTrees.{hangRising}
-use Rattle.semantics.specs.Enumeration.{headOf}
 
 -- ---- which table hangs under which
 -- a table, and the one under which it hangs

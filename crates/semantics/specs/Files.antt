@@ -1,15 +1,10 @@
 -- Document 01, "The file": the records of a file, read in order, and the answers 1 to 6.
-use mathlib.Core.Path.{_≡_}
 use mathlib.Core.Bool.{Bool, true, false, _&&_, _||_}
 use mathlib.Core.List.{List, [], _∷_, _++_}
-use Prim.Native.Nat.{ℕ, zero, suc, _+_, _*_, _/_, _%_, _^_, _≤_, _<_}
+use Prim.Native.Nat.{ℕ, zero, suc, _+_, _*_, _/_, _%_, _^_}
 use lib.ListN.{length, drop, getD}
-use lib.Dec.{eqb, ltb, leb}
-use Rattle.semantics.specs.Lists.{Each, any, sum, upTo}
-
--- every number of the list is a byte
-abbrev pub Bytes : List ℕ → Type 0
-Bytes l = Each (λ b. b < 256) l
+use lib.Dec.{eqb, ltb}
+use Rattle.semantics.specs.Lists.{sum, upTo}
 
 -- the 4-byte number at an offset: little-endian
 unfoldable pub wordAt : List ℕ → ℕ → ℕ
@@ -36,6 +31,9 @@ pub record Table : Type 0 where
   pub rows : ℕ
   pub start : ℕ  -- offset of the first column
 
+abbrev pub tableWith : ℕ → ℕ → ℕ → Table
+tableWith mask rows start = record { mask = mask; rows = rows; start = start }
+
 -- the bytes of all columns of a table
 unfoldable pub columnBytes : ℕ → ℕ → ℕ
 columnBytes mask rows = 4 * (arity mask * rows)
@@ -47,13 +45,6 @@ columnStart t a = t .start + 4 * (onesBelow (t .mask) a * t .rows)
 -- the value of an attribute in a row: the word of that row in the column, which is the part of the file from its own offset on
 unfoldable pub value : List ℕ → Table → ℕ → ℕ → ℕ
 value bytes t a y = wordAt (drop (columnStart t a) bytes) (4 * y)
-
--- what the rules ask of a table in a file of n bytes
-pub record Fitting (n : ℕ) (t : Table) : Type 0 where
-  pub some : 1 ≤ arity (t .mask)
-  pub few : arity (t .mask) ≤ 8
-  pub low : t .rows ≤ 4096
-  pub inside : t .start + columnBytes (t .mask) (t .rows) ≤ n
 
 -- ---- marks
 pub data Mark : Type 0 where
@@ -97,7 +88,7 @@ tableRecord o left mask rows =
                   | false ↦
                       elim (ltb left (10 + columnBytes mask rows)) [
                         | true ↦ broken 1
-                        | false ↦ whole (record { mask = mask; rows = rows; start = o + 10 }) (10 + columnBytes mask rows)
+                        | false ↦ whole (tableWith mask rows (o + 10)) (10 + columnBytes mask rows)
                       ]
                 ]
           ]
@@ -155,13 +146,3 @@ readFrom (suc k) o l ts =
 -- "a file has at most 16 tables"
 unfoldable pub read : List ℕ → Reading
 read bytes = readFrom 16 0 bytes []
-
--- ---- files that differ only in attribute values
--- the byte at an offset stands in a column of one of the tables
-unfoldable pub inColumn : List Table → ℕ → Bool
-inColumn ts i = any (λ t. leb (t .start) i && ltb i (t .start + columnBytes (t .mask) (t .rows))) ts
-
--- g has f's length, and f's bytes outside the columns of the tables read in f
-pub record SameOutsideColumns (f g : List ℕ) : Type 0 where
-  pub size : length f ≡ length g
-  pub bytes : (i : ℕ) → inColumn ((read f) .tables) i ≡ false → getD f i 0 ≡ getD g i 0

@@ -1,6 +1,6 @@
 -- Requests U2 and U4: join trees. A tree is kept as the plan that it gives: `scan t` is the table t without children, `join a b` is the
 -- tree a with the tree b hung last under a's root. So "in the plan a table joins its children's plans in turn", the root is the
--- leftmost table, and the tree's tables are the plan's. (`planOfTree` and `treeOf` say so of trees written out.)
+-- leftmost table, and the tree's tables are the plan's.
 use mathlib.Core.Bool.{Bool, true, false}
 use Prim.Native.Nat.{ℕ, suc}
 use lib.Dec.{eqb, ltb}
@@ -29,33 +29,3 @@ hangUnder x c (join a b) =
 abbrev pub hangRising : Plan → Plan → Plan
 hangRising c (scan t) = join (scan t) c
 hangRising c (join a b) = elim (ltb (leftmost c) (leftmost b)) [ true ↦ join (hangRising c a) b | false ↦ join (join a b) c ]
-
--- ---- trees written out: a table and its children in order
-mutual
-  pub data JoinTree : Type 0 where
-    node : ℕ → Children → JoinTree
-
-  pub data Children : Type 0 where
-    childless : Children
-    child : JoinTree → Children → Children
-
--- "in the plan a table joins its children's plans in turn"
-abbrev mutual
-  pub planOfTree : JoinTree → Plan
-  planOfTree (node t cs) = inTurn cs (scan t)
-
-  pub inTurn : Children → Plan → Plan
-  inTurn childless p = p
-  inTurn (child c cs) p = inTurn cs (join p (planOfTree c))
-
--- the tree of a plan, where a join hangs the right tree last under the root of the left one
-abbrev pub childLast : Children → JoinTree → Children
-childLast childless d = child d childless
-childLast (child c cs) d = child c (childLast cs d)
-
-abbrev pub hungLast : JoinTree → JoinTree → JoinTree
-hungLast (node t cs) d = node t (childLast cs d)
-
-abbrev pub treeOf : Plan → JoinTree
-treeOf (scan t) = node t childless
-treeOf (join l r) = hungLast (treeOf l) (treeOf r)

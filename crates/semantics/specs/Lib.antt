@@ -4,14 +4,11 @@ pub mod Plans
 pub mod Shapes
 pub mod JoinTrees
 pub mod Mending
+pub mod Elimination
 pub mod Results
 pub mod SearchTrees
 pub mod Totals
 pub mod Counts
 pub mod Bags
-pub mod Rows
-pub mod Enumeration
-pub mod Elimination
-pub mod Details
 pub mod Outcome
 pub mod Samples

@@ -2,12 +2,8 @@
 use mathlib.Core.Bool.{Bool, true, false, _&&_, _||_}
 use mathlib.Core.List.{List, [], _∷_, _++_}
 use mathlib.Core.Option.{Option, none, some}
-use Prim.Native.Nat.{ℕ, zero, suc, _+_, _*_, _<_}
+use Prim.Native.Nat.{ℕ, zero, suc, _+_, _*_}
 use lib.Dec.{eqb}
-
-abbrev pub oneIf : Bool → ℕ
-oneIf true = 1
-oneIf false = 0
 
 module _ {A : Type 0} where
   -- a put before l where the test passed
@@ -51,16 +47,6 @@ module _ {A : Type 0} where
   several [] = false
   several (x ∷ xs) = nonEmpty xs
 
-  -- the list where the test passed, else none
-  abbrev pub onlyIf : Bool → List A → List A
-  onlyIf true l = l
-  onlyIf false l = []
-
-  -- every element has the property
-  abbrev pub Each : (A → Type 0) → List A → Type 0
-  Each P [] = Unit {0}
-  Each P (x ∷ xs) = P x × Each P xs
-
 abbrev pub concatMap : {A B : Type 0} → (A → List B) → List A → List B
 concatMap f [] = []
 concatMap f (x ∷ xs) = f x ++ concatMap f xs
@@ -81,18 +67,7 @@ same [] (y ∷ ys) = false
 same (x ∷ xs) [] = false
 same (x ∷ xs) (y ∷ ys) = eqb x y && same xs ys
 
--- the number stands in the list
-abbrev pub member : List ℕ → ℕ → Bool
-member xs x = any (eqb x) xs
-
--- one list is the other in another order
-pub data Permutation : List ℕ → List ℕ → Type 0 where
-  unchanged : {xs : List ℕ} → Permutation xs xs
-  exchanged : (xs ys : List ℕ) → Permutation (xs ++ ys) (ys ++ xs)
-  beside : {xs ys zs ws : List ℕ} → Permutation xs ys → Permutation zs ws → Permutation (xs ++ zs) (ys ++ ws)
-  after : {xs ys zs : List ℕ} → Permutation xs ys → Permutation ys zs → Permutation xs zs
-
--- each number is below those after it
-abbrev pub Rising : List ℕ → Type 0
-Rising [] = Unit {0}
-Rising (x ∷ xs) = Each (λ y. x < y) xs × Rising xs
+-- the first number of the list
+abbrev pub headOf : List ℕ → ℕ
+headOf [] = 0
+headOf (z ∷ zs) = z

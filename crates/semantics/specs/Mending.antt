@@ -1,6 +1,5 @@
--- Request U2, "mend the plans our optimiser sends": the mended plan, its penalty, the selections over which that is least, and
--- answer 9. Nothing here can see an attribute value.
-use mathlib.Core.Path.{_≡_}
+-- Request U2, "mend the plans our optimiser sends": the mended plan, its penalty, and answer 9.
+-- Nothing here can see an attribute value.
 use mathlib.Core.Bool.{Bool, true, false, _&&_}
 use mathlib.Core.List.{List, [], _∷_}
 use mathlib.Core.Option.{Option, none, some}
@@ -80,32 +79,10 @@ module _ (S : Shape) where
   unfoldable pub penalty : Plan → ℕ
   penalty p = cost p (mendedRoot p)
 
-  -- ---- "all such selections": a root, and at each join a holder of the join attributes on the side without the root, as the
-  -- root of a selection there
-  pub data Selection : Plan → ℕ → Type 0 where
-    only : {t : ℕ} → Selection (scan t) t
-    rootLeft : {l r : Plan} {x : ℕ} (b : ℕ) → holdsAll (joinAttributes S l r) b ≡ true → Selection l x → Selection r b → Selection (join l r) x
-    rootRight : {l r : Plan} {x : ℕ} (b : ℕ) → holdsAll (joinAttributes S l r) b ≡ true → Selection r x → Selection l b → Selection (join l r) x
-
-  abbrev pub selectionPenalty : {p : Plan} {x : ℕ} → Selection p x → ℕ
-  selectionPenalty only = 0
-  selectionPenalty (rootLeft b h s u) = selectionPenalty s + selectionPenalty u
-  selectionPenalty (rootRight b h s u) = selectionPenalty s + (selectionPenalty u + S .rows b)
-
-  abbrev pub selectionTree : {p : Plan} {x : ℕ} → Selection p x → Plan
-  selectionTree (only {t}) = scan t
-  selectionTree (rootLeft {l} {r} b h s u) = hang (joinAttributes S l r) (selectionTree u) (selectionTree s)
-  selectionTree (rootRight {l} {r} b h s u) = hang (joinAttributes S l r) (selectionTree u) (selectionTree s)
-
   -- ---- answer 9
   -- both sides of the join have a table that holds its join attributes
   unfoldable pub bothHold : Plan → Plan → Bool
   bothHold l r = nonEmpty (holders (joinAttributes S l r) l) && nonEmpty (holders (joinAttributes S l r) r)
-
-  -- so it is at every join of the plan
-  abbrev pub Mendable : Plan → Type 0
-  Mendable (scan t) = Unit {0}
-  Mendable (join l r) = (bothHold l r ≡ true) × Mendable l × Mendable r
 
   -- "a join has a side where no table holds its join attributes; detail, the first such FF", in a plan whose bytes begin at i
   abbrev pub unmendable : Plan → ℕ → Option ℕ

@@ -1,8 +1,8 @@
 -- Document 01, "The plan": plans, the bytes that spell them, and the answers 7 and 8.
-use mathlib.Core.Bool.{Bool, true, false, _&&_, not}
+use mathlib.Core.Bool.{true, false, _&&_, not}
 use mathlib.Core.List.{List, [], _∷_, _++_}
 use mathlib.Core.Option.{Option, none, some}
-use Prim.Native.Nat.{ℕ, zero, suc, _+_, _<_}
+use Prim.Native.Nat.{ℕ, zero, suc, _+_}
 use lib.ListN.{length}
 use lib.Dec.{eqb, ltb}
 use Rattle.semantics.specs.Lists.{any}
@@ -26,11 +26,6 @@ tables (join l r) = tables l ++ tables r
 abbrev pub leftmost : Plan → ℕ
 leftmost (scan t) = t
 leftmost (join l r) = leftmost l
-
--- the table numbers of a plan that bytes can name
-abbrev pub Small : Plan → Type 0
-Small (scan t) = t < 16
-Small (join l r) = Small l × Small r
 
 -- Answer 7: the index of the first byte that cannot stand there, or of the end where the plan ends early.
 -- That many plans are still owed at index i; a table number pays one, an FF pays one and owes two.

@@ -1,13 +1,12 @@
 -- What a plan says of the tables' masks and row counts alone: join attributes, well-behaved plans, the scratch needed (answer
 -- 10) and the width of the output. Nothing here can see an attribute value.
-use mathlib.Core.Path.{_≡_}
-use mathlib.Core.Bool.{Bool, true, _&&_}
+use mathlib.Core.Bool.{Bool, _&&_}
 use mathlib.Core.List.{List}
 use mathlib.Core.Option.{Option, none, some}
 use Prim.Native.Nat.{ℕ, _+_, _*_, _/_, min, max}
 use lib.ListN.{length, getD}
-use Rattle.semantics.specs.Lists.{any, all, filter, sum, upTo}
-use Rattle.semantics.specs.Files.{Table, hasBit}
+use Rattle.semantics.specs.Lists.{any, filter, sum, upTo}
+use Rattle.semantics.specs.Files.{Table, tableWith, hasBit}
 use Rattle.semantics.specs.Plans.{Plan, scan, join, tables, leftmost}
 
 -- the tables by number, without their values: the row count, and which attributes the table has
@@ -20,7 +19,7 @@ unfoldable pub attributes : List ℕ
 attributes = upTo 32
 
 abbrev pub noTable : Table
-noTable = record { mask = 0; rows = 0; start = 0 }
+noTable = tableWith 0 0 0
 
 -- tables "numbered from 0 in file order"
 unfoldable pub shapeOf : List Table → Shape
@@ -49,15 +48,6 @@ module _ (S : Shape) where
   unfoldable pub joinAttributes : Plan → Plan → List ℕ
   joinAttributes l r = filter (shared l r) attributes
 
-  -- the leftmost table of the left plan and that of the right plan both have all join attributes
-  unfoldable pub behaves : Plan → Plan → Bool
-  behaves l r = all (λ a. S .has (leftmost l) a && S .has (leftmost r) a) (joinAttributes l r)
-
-  -- "the plan is well-behaved"
-  abbrev pub WellBehaved : Plan → Type 0
-  WellBehaved (scan t) = Unit {0}
-  WellBehaved (join l r) = (behaves l r ≡ true) × WellBehaved l × WellBehaved r
-
   -- a: the attributes of the widest join key, 0 without joins
   abbrev pub widestKey : Plan → ℕ
   widestKey (scan t) = 0
@@ -75,9 +65,12 @@ rowsIn ts = sum (λ t. t .rows) ts
 unfoldable pub width : List Table → ℕ
 width ts = length (filter (λ a. any (λ t. hasBit (t .mask) a) ts) attributes)
 
--- "the words needed"
+-- "the words needed": that many for each row, and one more for each row of the left plan's leftmost table at each join
+abbrev pub wordsPerRow : ℕ
+wordsPerRow = 8
+
 unfoldable pub scratchNeed : List Table → Plan → ℕ
-scratchNeed ts p = 8 * rowsIn ts + leftRows (shapeOf ts) p
+scratchNeed ts p = wordsPerRow * rowsIn ts + leftRows (shapeOf ts) p
 
 -- the rows of w values that an output of that many words fits
 unfoldable pub outputFits : ℕ → ℕ → ℕ

@@ -1,10 +1,12 @@
--- The catalog of a list of tables: empty, and with one table more.
+-- The catalog of a list of tables: empty, with one table more, and what it holds of a table.
 use mathlib.Core.Path.{_≡_, refl}
-use mathlib.Core.List.{List, [], _∷_, _++_}
+use mathlib.Core.List.{List, [], _∷_, _++_, map}
 use Prim.Native.Nat.{ℕ, _+_, _<_}
-use lib.ListN.{length, set, replicate, length-append}
+use lib.ListN.{length, getD, set, replicate, length-append}
 use Rattle.semantics.specs.Files.{Table}
-use Rattle.words.proofs.Arrays.{padded-field}
+use Rattle.semantics.specs.Shapes.{noTable}
+use Rattle.words.specs.Arrays.{padded}
+use Rattle.words.proofs.Arrays.{padded-field, padded-map}
 use Rattle.tables.specs.declared.Catalog.{Catalog}
 use Rattle.tables.specs.Catalogs.{catalogOf}
 
@@ -17,10 +19,16 @@ unfolding catalogOf
 catalog-count ts = refl
 
 -- the catalog c with a table stored at its first free places
-abbrev pub stored : Catalog → Table → Catalog
-stored c t = record { count = c .count + 1; masks = set (c .masks) (c .count) (t .mask); rows = set (c .rows) (c .count) (t .rows); starts = set (c .starts) (c .count) (t .start) }
+abbrev pub withTable : Catalog → Table → Catalog
+withTable c t =
+    record {
+      count = c .count + 1;
+      masks = set (c .masks) (c .count) (t .mask);
+      rows = set (c .rows) (c .count) (t .rows);
+      starts = set (c .starts) (c .count) (t .start);
+    }
 
-pub catalog-more : (ts : List Table) (t : Table) → length ts < 16 → stored (catalogOf ts) t ≡ catalogOf (ts ++ (t ∷ []))
+pub catalog-more : (ts : List Table) (t : Table) → length ts < 16 → withTable (catalogOf ts) t ≡ catalogOf (ts ++ (t ∷ []))
 unfolding catalogOf
 catalog-more ts t h =
     let n : length ts + 1 ≡ length (ts ++ (t ∷ [])) = simp length-append in
@@ -30,3 +38,14 @@ catalog-more ts t h =
       rows = padded-field (λ t. t .rows) ts t h i;
       starts = padded-field (λ t. t .start) ts t h i;
     }
+
+-- ---- what the arrays hold of table number i
+module _ (ts : List Table) (i : ℕ) where
+  pub mask-at : getD (padded (map (λ t. t .mask) ts)) i 0 ≡ (getD ts i noTable) .mask
+  mask-at = padded-map (λ t. t .mask) ts i noTable refl
+
+  pub rows-at : getD (padded (map (λ t. t .rows) ts)) i 0 ≡ (getD ts i noTable) .rows
+  rows-at = padded-map (λ t. t .rows) ts i noTable refl
+
+  pub start-at : getD (padded (map (λ t. t .start) ts)) i 0 ≡ (getD ts i noTable) .start
+  start-at = padded-map (λ t. t .start) ts i noTable refl

@@ -4,11 +4,12 @@ use mathlib.Core.Bool.{true}
 use Prim.Native.Nat.{ℕ, zero, suc, _+_, _*_, _-_, _≤_, _<_}
 use native.Mathlib.Nat.{mul-le-mul, le-refl, add-zero, add-mul, one-mul}
 use native.Mathlib.Omega.{arith}
-use borrow.Author.Tests.{eqb-true, le-ltb}
+use borrow.Author.Tests.{le-ltb}
 use Rattle.semantics.specs.Lists.{sum, from, upTo}
-use Rattle.semantics.specs.Files.{Table, bit, hasBit, onesBelow, arity, columnBytes, columnStart, Fitting}
-use Rattle.semantics.proofs.Numbers.{sum-last}
-use Rattle.tables.specs.Catalogs.{tableWith}
+use Rattle.semantics.specs.Files.{Table, tableWith, bit, hasBit, onesBelow, arity, columnBytes, columnStart}
+use Rattle.theory.specs.Rules.{Fitting}
+use Rattle.theory.proofs.Numbers.{sum-last}
+use Rattle.words.proofs.Masks.{bit-one}
 use Rattle.tables.proofs.TableRecords.{values-few}
 
 sum-longer : (f : ℕ → ℕ) (n k : ℕ) → sum f (from 0 n) ≤ sum f (from 0 (n + k))
@@ -38,14 +39,10 @@ unfolding columnStart
 column-place m n start a k e = rw e
 
 -- ---- the column of an attribute that the table has
-one : (m a : ℕ) → hasBit m a ≡ true → bit m a ≡ 1
-unfolding hasBit
-one m a b = eqb-true (bit m a) 1 b
-
 ones-more : (m a : ℕ) → a < 32 → hasBit m a ≡ true → onesBelow m a + 1 ≤ arity m
 ones-more m a h b =
     let s : onesBelow m (suc a) ≡ onesBelow m a + bit m a = unfold onesBelow upTo in sum-last (bit m) a in
-    omega (arith, ones-few m (suc a) (omega arith), s, one m a b)
+    omega (arith, ones-few m (suc a) (omega arith), s, bit-one m a b)
 
 pub column-fits : (size : ℕ) (t : Table) (a : ℕ) → Fitting size t → a < 32 → hasBit (t .mask) a ≡ true → columnStart t a + 4 * t .rows ≤ size
 unfolding columnStart columnBytes

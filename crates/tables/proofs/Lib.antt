@@ -3,6 +3,7 @@ pub mod TableRecords
 pub mod Records
 pub mod Steps
 pub mod Catalogs
-pub mod Reached
+pub mod ReadTo
 pub mod Columns
 pub mod Widths
+pub mod Cells

@@ -8,10 +8,10 @@ use native.Mathlib.Omega.{arith}
 use lib.ListN.{length, drop, length-drop}
 use lib.Dec.{ltb}
 use borrow.Author.Tests.{lt-ltb, le-ltb, eq-eqb, ne-eqb, ltb-true, ltb-false}
-use Rattle.semantics.specs.Files.{wordAt, arity, columnBytes, broken, whole, tableRecord, nextTable}
+use Rattle.semantics.specs.Files.{tableWith, wordAt, arity, columnBytes, broken, whole, tableRecord, nextTable}
 use Rattle.tables.specs.declared.End.the-variants as end
 use Rattle.tables.specs.declared.Record.the-variants as kind
-use Rattle.tables.specs.Catalogs.{tableOf, tableWith}
+use Rattle.tables.specs.Catalogs.{tableOf}
 use Rattle.words.proofs.Parts.{word-drop}
 
 -- ---- over the bytes left, the mask and the row count

@@ -3,10 +3,11 @@ use mathlib.Core.Path.{_≡_}
 use mathlib.Core.Bool.{true, false}
 use mathlib.Core.List.{List, map}
 use Prim.Native.Nat.{ℕ, _-_}
-use lib.ListN.{length, take}
+use lib.ListN.{length, getD, take}
 use lib.Dec.{leb}
 use Rattle.semantics.specs.Lists.{any}
-use Rattle.semantics.specs.Files.{Table, hasBit, cutMark, tableMark, planMark, otherMark, nextMark, TableRecord, broken, whole, nextTable, Ending, fault, planBytes, planRecord, read}
+use Rattle.semantics.specs.Files.{Table, tableWith, hasBit, cutMark, tableMark, planMark, otherMark, nextMark, TableRecord, broken, whole}
+use Rattle.semantics.specs.Files.{nextTable, Ending, fault, planBytes, planRecord, read}
 use Rattle.semantics.specs.Shapes.{width}
 use Rattle.words.specs.Arrays.{padded}
 use Rattle.tables.specs.declared.Catalog.{Catalog}
@@ -18,7 +19,12 @@ use Rattle.tables.specs.declared.Record.the-variants as kind
 
 unfoldable pub catalogOf : List Table → Catalog
 catalogOf ts =
-    record { count = length ts; masks = padded (map (λ t. t .mask) ts); rows = padded (map (λ t. t .rows) ts); starts = padded (map (λ t. t .start) ts) }
+    record {
+      count = length ts;
+      masks = padded (map (λ t. t .mask) ts);
+      rows = padded (map (λ t. t .rows) ts);
+      starts = padded (map (λ t. t .start) ts);
+    }
 
 -- the plan's bytes are the last ones of a file of that many bytes
 abbrev pub endOf : ℕ → Ending → End
@@ -43,13 +49,14 @@ recordOf n size o l =
 unfoldable pub contentsOf : List ℕ → Contents
 contentsOf bytes = record { catalog = catalogOf ((read bytes) .tables); end = endOf (length bytes) ((read bytes) .ending) }
 
-abbrev pub tableWith : ℕ → ℕ → ℕ → Table
-tableWith mask rows start = record { mask = mask; rows = rows; start = start }
+-- the table that the catalog's arrays give for a number
+abbrev pub tableAt : Catalog → ℕ → Table
+tableAt c t = tableWith (getD (c .masks) t 0) (getD (c .rows) t 0) (getD (c .starts) t 0)
 
 -- w of a file: the number of attributes in all of its tables together
 abbrev pub fileWidth : List ℕ → ℕ
 fileWidth bytes = width ((read bytes) .tables)
 
 -- the mask has the attributes of the first n masks, and no others
-abbrev pub AttributesOf : List ℕ → ℕ → ℕ → Type 0
-AttributesOf masks n mask = (a : ℕ) → hasBit mask a ≡ any (λ m. hasBit m a) (take n masks)
+abbrev pub AttributesTogether : List ℕ → ℕ → ℕ → Type 0
+AttributesTogether masks n mask = (a : ℕ) → hasBit mask a ≡ any (λ m. hasBit m a) (take n masks)

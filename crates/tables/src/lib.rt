@@ -1,11 +1,12 @@
 // The records of a file, read one after the other into a catalog: answers 1 to 6. Only `value` reads an attribute value.
 ghost use mathlib.Core.Path.{_≡_};
 ghost use mathlib.Core.Bool.{_&&_};
-ghost use Prim.Native.Nat.{_+_, _*_, _-_, _<_, _≤_, _^_};
+ghost use Prim.Native.Nat.{_+_, _*_, _-_, _<_, _≤_};
 ghost use lib.ListN.{length, drop, getD};
 ghost use lib.Dec.{eqb};
-ghost use Rattle.semantics.specs.Files.{wordAt, columnStart, Fitting, nextTable, planRecord};
-ghost use Rattle.tables.specs.Catalogs.{endOf, tableOf, recordOf, contentsOf, tableWith, fileWidth, AttributesOf};
+ghost use Rattle.semantics.specs.Files.{wordAt, tableWith, columnStart, nextTable, planRecord};
+ghost use Rattle.theory.specs.Rules.{Fitting};
+ghost use Rattle.tables.specs.Catalogs.{endOf, tableOf, recordOf, contentsOf, fileWidth, AttributesTogether};
 
 // The tables of a file, in file order. The places past the last table are 0.
 pub struct Catalog {
@@ -36,7 +37,8 @@ enum Record {
 // The two bytes at an offset are those of the mark.
 fn marked(s: &[u8], at: usize, mark: &[u8; 2]) -> bool
     requires { ⌜ at + 2 ≤ length (now s) ⌝ }
-    ensures { λ r. ⌜ r ≡ (eqb (getD (now (s .entry)) at 0) (getD (now (mark .entry)) 0 0) && eqb (getD (now (s .entry)) (at + 1) 0) (getD (now (mark .entry)) 1 0)) ⌝ }
+    ensures { λ r. ⌜ r ≡ (eqb (getD (now (s .entry)) at 0) (getD (now (mark .entry)) 0 0)
+        && eqb (getD (now (s .entry)) (at + 1) 0) (getD (now (mark .entry)) 1 0)) ⌝ }
 {
     s[at] == mark[0] && s[at + 1] == mark[1]
 }
@@ -137,7 +139,7 @@ pub fn read(file: &[u8]) -> Contents
 // The attributes of the first `count` masks together.
 fn attributes_of(masks: &[u32; 16], count: usize) -> u32
     requires { ⌜ (count ≤ 16) × (count ≤ length (now masks)) ⌝ }
-    ensures { λ r. ⌜ AttributesOf (now (masks .entry)) count r ⌝ }
+    ensures { λ r. ⌜ AttributesTogether (now (masks .entry)) count r ⌝ }
 {
     let mut all: u32 = 0;
     let mut i = 0;

@@ -6,7 +6,7 @@ use Prim.Native.Nat.{_-_, _≤_}
 use lib.ListN.{length}
 use borrow.Author.Needs.{needs}
 use native.Mathlib.Omega.{arith}
-use Rattle.mending.specs.Rooting.{Kept}
+use Rattle.mending.specs.Rooting.{RootsRemembered}
 use Rattle.mending.specs.Whole.{WholeSearched}
 use Rattle.mending.proofs.whole_root.Statement.{statement}
 use Rattle.mending.proofs.whole_root.Tie as tie
@@ -18,7 +18,7 @@ use Rattle.mending.proofs.rooting.no_pick.Reads as no-pick-reads
 use Rattle.mending.proofs.rooting.tree_for.Reads as tree-for-reads
 
 abbrev Inv-loop : tie.InvT-loop
-Inv-loop code masks rows ends sets best₀ pick₀ n₀ best pick n = Kept code masks rows best × WholeSearched code masks rows n pick × (n ≤ length code)
+Inv-loop code masks rows ends sets best₀ pick₀ n₀ best pick n = RootsRemembered code masks rows best × WholeSearched code masks rows n pick × (n ≤ length code)
 
 abbrev μ-loop : tie.MeasureT-loop
 μ-loop code masks rows ends sets best₀ pick₀ n₀ best pick n = length code - n

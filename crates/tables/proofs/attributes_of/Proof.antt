@@ -2,13 +2,13 @@ use Prim.Native.Nat.{_-_, _≤_}
 use mathlib.Core.Path.{_≡_}
 use native.Mathlib.Omega.{arith}
 use borrow.Author.Needs.{needs}
-use Rattle.tables.specs.Catalogs.{AttributesOf}
+use Rattle.tables.specs.Catalogs.{AttributesTogether}
 use Rattle.tables.proofs.Widths.{none-yet, one-mask-more}
 use Rattle.tables.proofs.attributes_of.Statement.{statement}
 use Rattle.tables.proofs.attributes_of.Tie as tie
 
 abbrev Inv-loop : tie.InvT-loop
-Inv-loop masks count all₀ i₀ all i = (i ≤ count) × AttributesOf masks i all
+Inv-loop masks count all₀ i₀ all i = (i ≤ count) × AttributesTogether masks i all
 
 abbrev μ-loop : tie.MeasureT-loop
 μ-loop masks count all₀ i₀ all i = count - i

@@ -2,12 +2,12 @@ use Prim.Native.Nat.{_-_}
 use lib.ListN.{length}
 use borrow.Author.Needs.{needs}
 use native.Mathlib.Omega.{arith}
-use Rattle.tables.proofs.Reached.{Reached, begun, Taken, at-last, at-table}
+use Rattle.tables.proofs.ReadTo.{ReadTo, begun, Taken, at-last, at-table}
 use Rattle.tables.proofs.read.Statement.{statement}
 use Rattle.tables.proofs.read.Tie as tie
 
 abbrev Inv-loop : tie.InvT-loop
-Inv-loop file catalog₀ at₀ catalog at = Reached file at catalog
+Inv-loop file catalog₀ at₀ catalog at = ReadTo file at catalog
 
 abbrev μ-loop : tie.MeasureT-loop
 μ-loop file catalog₀ at₀ catalog at = length file - at

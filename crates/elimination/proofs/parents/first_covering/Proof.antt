@@ -2,7 +2,7 @@ use Prim.Native.Nat.{_-_}
 use mathlib.Core.Path.{sym}
 use mathlib.Core.Logic.{⊎-elim}
 use borrow.Author.Needs.{needs}
-use Rattle.semantics.proofs.Cases.{true-false}
+use Rattle.theory.proofs.Cases.{true-false}
 use Rattle.elimination.specs.Parents.{Uncovered}
 use Rattle.elimination.proofs.Covering.{uncovered-begun, uncovered-all, uncovered-more, covered-here}
 use Rattle.elimination.proofs.parents.first_covering.Statement.{statement}

@@ -1,7 +1,7 @@
 use Prim.Native.Nat.{_-_}
 use mathlib.Core.Logic.{⊎-elim}
 use borrow.Author.Needs.{needs}
-use Rattle.semantics.proofs.Cases.{true-false}
+use Rattle.theory.proofs.Cases.{true-false}
 use Rattle.elimination.specs.Parents.{Gathered}
 use Rattle.elimination.proofs.Covering.{gathered-begun, gathered-gone, gathered-more, gathered-all}
 use Rattle.elimination.proofs.parents.others.Statement.{statement}

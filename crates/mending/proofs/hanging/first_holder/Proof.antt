@@ -3,7 +3,7 @@ use lib.ListN.{length}
 use borrow.Author.Needs.{needs}
 use native.Mathlib.Omega.{arith}
 use Rattle.mending.specs.Hanging.{HolderAt}
-use Rattle.mending.proofs.Held.{is-holder, not-holder}
+use Rattle.mending.proofs.Holders.{is-holder, not-holder}
 use Rattle.mending.proofs.Hangs.{none-more}
 use Rattle.mending.proofs.hanging.first_holder.Statement.{statement}
 use Rattle.mending.proofs.hanging.first_holder.Tie as tie

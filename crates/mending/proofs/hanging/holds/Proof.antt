@@ -1,7 +1,7 @@
 use native.Mathlib.Omega.{arith}
 use mathlib.Core.Path.{sym, _∙_}
 use borrow.Author.Tests.{ltb-true, ltb-false}
-use Rattle.mending.proofs.Held.{held-mark, tested}
+use Rattle.mending.proofs.Holders.{held-mark, tested}
 use borrow.Author.Needs.{needs}
 use Rattle.mending.proofs.hanging.holds.Statement.{statement}
 use Rattle.mending.proofs.hanging.holds.Tie as tie

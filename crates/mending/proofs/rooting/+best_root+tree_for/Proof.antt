@@ -4,10 +4,10 @@ use borrow.Author.Needs.{needs}
 use native.Mathlib.Omega.{arith}
 use mathlib.Core.Path.{sym, _∙_}
 use mathlib.Core.Logic.{⊎-elim}
-use Rattle.mending.specs.Rooting.{Kept, Searched}
+use Rattle.mending.specs.Rooting.{RootsRemembered, SideSearched}
 use Rattle.mending.proofs.Places.{starts}
 use Rattle.mending.proofs.Sides.{surveyed-bounds}
-use Rattle.mending.proofs.Held.{held-small}
+use Rattle.mending.proofs.Holders.{held-small}
 use Rattle.mending.proofs.Roots.{side-bounds, search-begun, search-passed, search-taken, search-done, sum-small, pick-fits, side-buildable, kept-more, kept-known}
 use Rattle.mending.proofs.Trees.{buildable-planned, buildable-join, taken, own-buildable, own-later, taken-join, taken-mendable, taken-costs, pick-small, table-cost}
 use Prim.Native.Nat.{ℕ, _<_}
@@ -51,7 +51,7 @@ tree-for-below t =
     and 6 tree-for-kinds.ps (falls 6 tree-for-kinds.ps _<_ μ-tree-for t) tree-for.Pre
 
 abbrev best-root-Inv-loop : best-root-lts.InvT-loop
-best-root-Inv-loop code masks rows ends sets at right best₀ slot known start end key pick₀ n₀ best pick n = Kept code masks rows best × Searched code masks rows at right start key n pick × (start + n ≤ end)
+best-root-Inv-loop code masks rows ends sets at right best₀ slot known start end key pick₀ n₀ best pick n = RootsRemembered code masks rows best × SideSearched code masks rows at right start key n pick × (start + n ≤ end)
 
 abbrev best-root-μ-loop : best-root-lts.MeasureT-loop
 best-root-μ-loop code masks rows ends sets at right best₀ slot known start end key pick₀ n₀ best pick n = end - (start + n)

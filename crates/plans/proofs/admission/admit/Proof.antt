@@ -8,11 +8,8 @@ read-requires c κs = search needs
 rule-requires : tie.Need-rule-requires
 rule-requires c κs = search needs
 
-schedule-in-requires : tie.Need-schedule-in-requires
-schedule-in-requires c κs = search needs
-
 returns : tie.Need-returns
-returns c = rw (c .schedule-in .ensures) (c .before .before .before .rule .ensures)
+returns c = c .before .rule .ensures
 
 pub admit-spec : {M : Type 1} → statement M
-admit-spec = tie.close (tie.spec read-requires rule-requires schedule-in-requires returns)
+admit-spec = tie.close (tie.spec read-requires rule-requires returns)

@@ -3,12 +3,6 @@ use Rattle.plans.proofs.Scratch.{follows, accepted, as-sent, formable, 
 use borrow.Author.Needs.{needs}
 use Rattle.plans.proofs.admission.admit_plan.Statement.{statement}
 use Rattle.plans.proofs.admission.admit_plan.Tie as tie
-use Rattle.plans.proofs.admission.admit_plan.Reads as reads
-use Rattle.plans.proofs.admission.admit_plan.Lts as lts
-use Rattle.plans.proofs.admission.check_plan.Reads as check-plan-reads
-use Rattle.plans.proofs.admission.refusal.Reads as refusal-reads
-use Rattle.plans.proofs.admission.with_formed.Reads as with-formed-reads
-use Rattle.plans.proofs.admission.with_scratch.Reads as with-scratch-reads
 
 check-plan-requires : tie.Need-check-plan-requires
 check-plan-requires c κs = search needs

@@ -1,8 +1,6 @@
 use Rattle.plans.proofs.Admitting.{asks-none, asks-some}
 use Rattle.plans.proofs.admission.asks_for_plan.Statement.{statement}
 use Rattle.plans.proofs.admission.asks_for_plan.Tie as tie
-use Rattle.plans.proofs.admission.asks_for_plan.Reads as reads
-use Rattle.plans.proofs.admission.asks_for_plan.Lts as lts
 
 returns : tie.Need-returns
 returns c = asks-none _ _ (c .if1 .taken)

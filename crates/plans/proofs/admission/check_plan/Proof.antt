@@ -2,12 +2,6 @@ use Rattle.plans.proofs.Admitting.{is-asked, is-sent, count-few, answer
 use borrow.Author.Needs.{needs}
 use Rattle.plans.proofs.admission.check_plan.Statement.{statement}
 use Rattle.plans.proofs.admission.check_plan.Tie as tie
-use Rattle.plans.proofs.admission.check_plan.Reads as reads
-use Rattle.plans.proofs.admission.check_plan.Lts as lts
-use Rattle.plans.proofs.admission.asks_for_plan.Reads as asks-for-plan-reads
-use Rattle.plans.proofs.behaviour.is_well_behaved.Reads as is-well-behaved-reads
-use Rattle.plans.proofs.naming.first_misnamed.Reads as first-misnamed-reads
-use Rattle.plans.proofs.spelling.first_misplaced.Reads as first-misplaced-reads
 
 asks-for-plan-requires : tie.Need-asks-for-plan-requires
 asks-for-plan-requires c κs = search needs

@@ -1,5 +1,5 @@
 use native.Mathlib.Omega.{arith}
-use Rattle.semantics.proofs.Reading.{bytes-of}
+use Rattle.theory.proofs.Reading.{bytes-of}
 use Rattle.words.proofs.Parts.{rest}
 use Rattle.plans.proofs.Whole.{nothing-is}
 use Rattle.plans.proofs.Verdicts.{catalogued, file-refused, plan-inside, file-planned}

@@ -1,4 +1,4 @@
-use mathlib.Core.Path.{refl, sym}
+use mathlib.Core.Path.{sym}
 use lib.Seq.{length-take-le}
 use native.Mathlib.Omega.{arith}
 use Rattle.plans.proofs.Whole.{nothing-is}
@@ -6,11 +6,6 @@ use Rattle.plans.proofs.Formed.{formed-refused, plan-in, formed-follows
 use borrow.Author.Needs.{needs}
 use Rattle.plans.proofs.admission.with_formed.Statement.{statement}
 use Rattle.plans.proofs.admission.with_formed.Tie as tie
-use Rattle.plans.proofs.admission.with_formed.Reads as reads
-use Rattle.plans.proofs.admission.with_formed.Lts as lts
-use Rattle.plans.proofs.admission.refusal.Reads as refusal-reads
-use Rattle.plans.proofs.admission.with_scratch.Reads as with-scratch-reads
-use Rattle.plans.proofs.forming.formed_plan.Reads as formed-plan-reads
 
 formed-plan-requires : tie.Need-formed-plan-requires
 formed-plan-requires c κs = search needs

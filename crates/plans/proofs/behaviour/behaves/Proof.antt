@@ -1,8 +1,6 @@
 use Rattle.plans.proofs.Judging.{by-right, by-left, by-masks}
 use Rattle.plans.proofs.behaviour.behaves.Statement.{statement}
 use Rattle.plans.proofs.behaviour.behaves.Tie as tie
-use Rattle.plans.proofs.behaviour.behaves.Reads as reads
-use Rattle.plans.proofs.behaviour.behaves.Lts as lts
 
 returns : tie.Need-returns
 returns c = by-right (c .before .before .before .before .args .left) (c .before .before .before .before .args .right) _ _ (c .before .if1 .taken) (c .if2 .taken)

@@ -1,9 +1,6 @@
 use borrow.Author.Needs.{needs}
 use Rattle.plans.proofs.behaviour.is_well_behaved.Statement.{statement}
 use Rattle.plans.proofs.behaviour.is_well_behaved.Tie as tie
-use Rattle.plans.proofs.behaviour.is_well_behaved.Reads as reads
-use Rattle.plans.proofs.behaviour.is_well_behaved.Lts as lts
-use Rattle.plans.proofs.behaviour.judge.Reads as judge-reads
 
 judge-requires : tie.Need-judge-requires
 judge-requires c κs = search needs

@@ -1,10 +1,6 @@
 use Rattle.plans.proofs.Formed.{formed-empty, sent-named, planless-for, named-for}
 use Rattle.plans.proofs.forming.formed_plan.Statement.{statement}
 use Rattle.plans.proofs.forming.formed_plan.Tie as tie
-use Rattle.plans.proofs.forming.formed_plan.Reads as reads
-use Rattle.plans.proofs.forming.formed_plan.Lts as lts
-use Rattle.plans.proofs.forming.found_plan.Reads as found-plan-reads
-use Rattle.plans.proofs.forming.mended_plan.Reads as mended-plan-reads
 
 found-plan-requires : tie.Need-found-plan-requires
 found-plan-requires c κs = let q = c .before .before .before .pre in (planless-for _ _ (q .0) (c .before .if1 .taken), q .1)

@@ -2,9 +2,6 @@ use Rattle.plans.proofs.Formed.{searchable, found-refused, found-formed
 use borrow.Author.Needs.{needs}
 use Rattle.plans.proofs.forming.found_plan.Statement.{statement}
 use Rattle.plans.proofs.forming.found_plan.Tie as tie
-use Rattle.plans.proofs.forming.found_plan.Reads as reads
-use Rattle.plans.proofs.forming.found_plan.Lts as lts
-use Rattle.elimination.proofs.find_plan.Reads as find-plan-reads
 
 find-plan-requires : tie.Need-find-plan-requires
 find-plan-requires c κs = let q = c .before .before .before .pre in let (a, b, d) = searchable _ (q .0) in (a, b, d, q .1)

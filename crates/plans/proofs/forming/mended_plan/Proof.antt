@@ -3,9 +3,6 @@ use Rattle.plans.proofs.Sending.{sent-of, mended-refused, mended-formed
 use borrow.Author.Needs.{needs}
 use Rattle.plans.proofs.forming.mended_plan.Statement.{statement}
 use Rattle.plans.proofs.forming.mended_plan.Tie as tie
-use Rattle.plans.proofs.forming.mended_plan.Reads as reads
-use Rattle.plans.proofs.forming.mended_plan.Lts as lts
-use Rattle.mending.proofs.mend.Reads as mend-reads
 
 mend-requires : tie.Need-mend-requires
 mend-requires c κs = let q = c .before .before .before .before .before .before .pre in (sent-of _ _ (q .0), q .1)

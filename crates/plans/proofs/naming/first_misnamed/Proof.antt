@@ -4,13 +4,13 @@ use borrow.Author.Needs.{needs}
 use native.Mathlib.Omega.{arith}
 use mathlib.Core.Path.{sym}
 use mathlib.Core.Logic.{⊎-elim}
-use Rattle.plans.specs.Names.{Named}
+use Rattle.plans.specs.Names.{NamedBefore}
 use Rattle.plans.proofs.Names.{begun, passed, absent, repeated, named-more, all-named, one-missing}
 use Rattle.plans.proofs.naming.first_misnamed.Statement.{statement}
 use Rattle.plans.proofs.naming.first_misnamed.Tie as tie
 
 abbrev Inv-loop : tie.InvT-loop
-Inv-loop code tables named₀ count₀ i₀ named count i = Named tables code named count i
+Inv-loop code tables named₀ count₀ i₀ named count i = NamedBefore tables code named count i
 
 abbrev μ-loop : tie.MeasureT-loop
 μ-loop code tables named₀ count₀ i₀ named count i = length code - i

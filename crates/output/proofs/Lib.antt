@@ -1,0 +1,7 @@
+pub mod Bundles
+pub mod Filling
+pub mod Values
+pub mod Ranks
+pub mod PlacedAttributes
+pub mod OutputTables
+pub mod Tuples

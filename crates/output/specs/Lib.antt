@@ -1,0 +1,4 @@
+pub mod OutputLists
+pub mod OutputColumns
+pub mod Placing
+pub mod Values

@@ -1,0 +1,4 @@
+pub mod Layout
+pub mod Chains
+pub mod Positions
+pub mod Grouped

@@ -1,0 +1,10 @@
+pub mod Elements
+pub mod Rules
+pub mod AlikeFiles
+pub mod Keys
+pub mod Trees
+pub mod Selections
+pub mod Orders
+pub mod Rows
+pub mod Enumeration
+pub mod Details
