@@ -23,7 +23,7 @@ use Rattle.tables.specs.declared.Catalog.{Catalog}
 use Rattle.plans.specs.declared.admission.Verdict.the-variants as decision
 use Rattle.plans.specs.declared.forming.Formed.{Formed}
 use Rattle.plans.specs.declared.forming.Formed.the-variants as formed
-use Rattle.plans.specs.Schedules.{Schedule, noSchedule}
+use Rattle.scheduling.specs.Schedules.{Schedule, noSchedule}
 use Rattle.plans.specs.Admissions.{Tabled, Named, NamedFor, Formable, asked, sent, Follows, Decided, decidedBy, decidedFollowing, decidedPlan}
 use Rattle.plans.specs.Forming.{FormableFor, PlanlessFor, PlanIn, FormedAs}
 use Rattle.plans.proofs.Admitting.{masked, masks-are, count-is}

@@ -1,15 +1,9 @@
 pub mod Reading
 pub mod Names
 pub mod Judging
-pub mod Lent
-pub mod Growing
-pub mod Scheduling
-pub mod Whole
 pub mod Admitting
 pub mod Scratch
 pub mod Sending
 pub mod Formed
 pub mod Verdicts
-pub mod Segments
-pub mod ByPosition
 pub mod Prepared

@@ -1,13 +1,13 @@
 -- From a file admitted to what the code may rely on.
 use Prim.Native.Nat.{ℕ, _+_, _<_, _≤_}
 use mathlib.Core.Path.{_≡_, refl, sym, ap, _∙_, fun-ext}
-use mathlib.Core.List.{List, [], _∷_, _++_, map}
+use mathlib.Core.List.{List, _∷_, map}
 use native.Mathlib.Omega.{arith}
-use lib.ListN.{length, getD, length-append, length-map}
+use lib.ListN.{length, getD, length-map}
 use Rattle.theory.specs.Elements.{Each}
 use Rattle.semantics.specs.Files.{Table, tableWith, hasBit, read}
 use Rattle.theory.specs.Rules.{Fitting, WithinRules}
-use Rattle.semantics.specs.Plans.{Plan, scan, join, tables, leftmost}
+use Rattle.semantics.specs.Plans.{Plan, tables, leftmost}
 use Rattle.semantics.specs.Shapes.{noTable, shapeOf, scratchNeed}
 use Rattle.semantics.specs.Outcome.{admitted, verdict}
 use Rattle.theory.proofs.Lists.{Each-map, Each-append, Each-of-map}
@@ -22,12 +22,11 @@ use Rattle.tables.specs.Catalogs.{catalogOf}
 use Rattle.theory.proofs.Mendable.{small-each}
 use Rattle.tables.proofs.Catalogs.{mask-at, rows-at, start-at}
 use Rattle.plans.specs.declared.admission.Verdict.the-variants as decision
-use Rattle.plans.specs.Schedules.{Schedule, rowCounts, turnsIn, placementOf, placementsIn, scheduleWith, scheduleOf}
+use Rattle.scheduling.specs.Schedules.{Schedule, rowCounts, turnsIn, placementOf, placementsIn, scheduleWith, scheduleOf}
 use Rattle.plans.specs.Admissions.{verdictOf, scheduleFor, Decided, decidedOf, AdmittedAs, AdmittedOf}
 use Rattle.plans.specs.Prepared.{Sized, Prepared}
-use Rattle.plans.proofs.Growing.{turns-length}
-use Rattle.plans.proofs.Scheduling.{tables-some}
-use Rattle.plans.proofs.ByPosition.{schedule-joins, schedule-first}
+use Rattle.scheduling.proofs.Growing.{turns-length}
+use Rattle.scheduling.proofs.ByPosition.{schedule-joins, schedule-first, turns-below, parents-below}
 
 -- ---- the answer `admitted` comes with a catalog and a schedule
 pub admitted-as : (bytes : List ℕ) (words : ℕ) (a : Decided) → a ≡ decidedOf bytes words → a .verdict ≡ decision.Admitted → AdmittedOf bytes words (a .catalog) (a .schedule)
@@ -46,27 +45,6 @@ field-length f xs h = padded-length (map f xs) (omega (arith, length-map xs f))
 sized-of : (ts : List Table) → length ts ≤ 16 → Sized (catalogOf ts)
 unfolding catalogOf
 sized-of ts few = record { masks = field-length (λ t. t .mask) ts few; rows = field-length (λ t. t .rows) ts few; starts = field-length (λ t. t .start) ts few }
-
--- ---- what they hold is low
-turns-below : (p : Plan) (q : ℕ) → Each (λ i. i < q + length (tables p)) (turnsIn p q)
-turns-below (scan t) q = tt
-turns-below (join l r) q =
-    let m = q + length (tables l) in
-    let n = q + length (tables (join l r)) in
-    let e : length (tables (join l r)) ≡ length (tables l) + length (tables r) = length-append (tables l) (tables r) in
-    Each-append (λ i. i < n) (turnsIn l q) (turnsIn r m ++ (m ∷ [])) (Each-map (λ i. i < m) (λ i. i < n) (λ i h. omega (arith, e)) (turnsIn l q) (turns-below l q))
-    (Each-append (λ i. i < n) (turnsIn r m) (m ∷ []) (Each-map (λ i. i < m + length (tables r)) (λ i. i < n) (λ i h. omega (arith, e)) (turnsIn r m) (turns-below r m)) (omega (arith, e, tables-some r), tt))
-
-parents-below : (masks : List ℕ) (rows : ℕ → ℕ) (p : Plan) (q a : ℕ) → Each (λ x. x .parent < q + length (tables p)) (placementsIn masks rows p q a)
-parents-below masks rows (scan t) q a = tt
-parents-below masks rows (join l r) q a =
-    let m = q + length (tables l) in
-    let n = q + length (tables (join l r)) in
-    let e : length (tables (join l r)) ≡ length (tables l) + length (tables r) = length-append (tables l) (tables r) in
-    let L = placementsIn masks rows l q a in
-    let R = placementsIn masks rows r m (a + storage rows l) in
-    Each-append (λ x. x .parent < n) L (placementOf masks rows l r q a ∷ R) (Each-map (λ x. x .parent < m) (λ x. x .parent < n) (λ x h. omega (arith, e)) L (parents-below masks rows l q a))
-    (omega (arith, e, tables-some l), Each-map (λ x. x .parent < m + length (tables r)) (λ x. x .parent < n) (λ x h. omega (arith, e)) R (parents-below masks rows r m (a + storage rows l)))
 
 -- ---- all of it
 module _ (bytes : List ℕ) (words : ℕ) (ts : List Table) (p : Plan) (v : verdict bytes words ≡ admitted ts p) where

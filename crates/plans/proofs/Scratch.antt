@@ -13,6 +13,7 @@ use Rattle.semantics.specs.Outcome.{refused, admitted, sentVerdict, planVerdict
 use Rattle.theory.specs.Rules.{WithinRules}
 use Rattle.theory.proofs.Mending.{mend-same}
 use Rattle.theory.proofs.Mendable.{mendable-unmendable, wellBehaved-mendable, leftmost-small}
+use Rattle.theory.proofs.Spelling.{first-table}
 use Rattle.theory.proofs.Rules.{tables-count, rows-count, plan-sent, plan-within}
 use Rattle.words.specs.Arrays.{padded}
 use Rattle.words.proofs.Arrays.{padded-at}
@@ -24,11 +25,10 @@ use Rattle.plans.specs.declared.admission.Check.the-variants as check
 use Rattle.storage.specs.Layout.{storageSize, storage}
 use Rattle.storage.proofs.Sizes.{storage-le, storage-need}
 use Rattle.mending.specs.Places.{PlanAt}
-use Rattle.plans.specs.Schedules.{Schedule, rowCounts, scheduleWith, scheduleOf, noSchedule, Plannable}
+use Rattle.scheduling.specs.Schedules.{Schedule, rowCounts, scheduleWith, scheduleOf, noSchedule, Plannable}
 use Rattle.plans.specs.Admissions.{Tabled, Catalogued, checkOf, Formable, Follows, Accepted, Decided, decidedBy, decidedFollowing, decidedPlan}
 use Rattle.plans.specs.Forming.{FormableFor}
 use Rattle.mending.proofs.Places.{spelled-stands}
-use Rattle.plans.proofs.Scheduling.{tables-some}
 use Rattle.plans.proofs.Judging.{tested-behaved}
 use Rattle.plans.proofs.Admitting.{masks-are, rows-are, rows-few, spelled-sent, Passed, check-refused, check-as-sent, check-formed}
 
@@ -37,11 +37,6 @@ pub refused-admission : (c : Catalog) (ts : List Table) (code : List ℕ) (n d w
     → record { verdict = decision.Refused n d; catalog = c; schedule = free } ≡ decidedPlan ts code words
 unfolding decidedPlan scratchVerdict
 refused-admission c ts code n d words h v free f = rw (v, scratchVerdict) (λ i. record { verdict = decision.Refused n d; catalog = h .is i; schedule = f i })
-
--- the first table in plan order is the leftmost one
-pub first-table : (p : Plan) → getD (tables p) 0 0 ≡ leftmost p
-first-table (scan t) = refl
-first-table (join l r) = List·getD-append (tables l) (tables r) 0 0 (tables-some l) ∙ first-table l
 
 module _ (c : Catalog) (code : List ℕ) (ts : List Table) (h : Tabled c ts) (a : Follows code ts) where
   within : WithinRules ts (planOf code)

@@ -13,7 +13,7 @@ use Rattle.tables.specs.declared.Contents.{Contents}
 use Rattle.tables.specs.declared.End.the-variants as end
 use Rattle.tables.specs.Catalogs.{catalogOf, endOf, contentsOf}
 use Rattle.plans.specs.declared.admission.Verdict.the-variants as decision
-use Rattle.plans.specs.Schedules.{Schedule, noSchedule}
+use Rattle.scheduling.specs.Schedules.{Schedule, noSchedule}
 use Rattle.plans.specs.Admissions.{Tabled, Catalogued, Decided, decidedPlan, decidedOf}
 
 module _ (file : List ℕ) (contents : Contents) (was : contents ≡ contentsOf file) where

@@ -15,14 +15,14 @@ use Rattle.theory.specs.Rules.{WithinRules}
 use Rattle.words.specs.Arrays.{padded}
 use Rattle.tables.specs.declared.Catalog.{Catalog}
 use Rattle.tables.specs.Catalogs.{catalogOf}
-use Rattle.plans.specs.declared.schedule.Extent.{Extent}
+use Rattle.scheduling.specs.declared.Extent.{Extent}
 use Rattle.plans.specs.declared.admission.Verdict.{Verdict as Decision}
 use Rattle.plans.specs.declared.admission.Verdict.the-variants as decision
 use Rattle.plans.specs.declared.admission.Check.{Check}
 use Rattle.plans.specs.declared.admission.Check.the-variants as check
 use Rattle.plans.specs.declared.admission.Ruling.{Ruling}
 use Rattle.plans.specs.Judging.{wellBehaved}
-use Rattle.plans.specs.Schedules.{Schedule, scheduleIn, rowCounts, noSchedule, scheduleOf}
+use Rattle.scheduling.specs.Schedules.{Schedule, scheduleIn, rowCounts, noSchedule, scheduleOf}
 
 -- the catalog holds these tables, as a file within the rules has them
 pub record Tabled (c : Catalog) (ts : List Table) : Type 0 where

@@ -13,8 +13,8 @@ use Rattle.storage.specs.Layout.{storageSize, storage}
 use Rattle.storage.specs.Positions.{WordsAt}
 use Rattle.tables.specs.declared.Catalog.{Catalog}
 use Rattle.tables.specs.Catalogs.{tableAt}
-use Rattle.plans.specs.Schedules.{Schedule, rowCounts, turnsIn}
-use Rattle.plans.specs.ByPosition.{JoinsPlaced}
+use Rattle.scheduling.specs.Schedules.{Schedule, rowCounts, turnsIn}
+use Rattle.scheduling.specs.ByPosition.{JoinsPlaced}
 
 -- the arrays of the catalog have 16 places each
 pub record Sized (c : Catalog) : Type 0 where

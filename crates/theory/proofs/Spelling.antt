@@ -4,12 +4,12 @@ use mathlib.Core.List.{List, [], _∷_, _++_, append-assoc, append-nil}
 use mathlib.Core.Option.{none}
 use Prim.Native.Nat.{ℕ, zero, suc, _+_, _*_, _<_}
 use native.Mathlib.Omega.{arith}
-use lib.ListN.{length, length-append}
+use lib.ListN.{length, getD, length-append, List·getD-append}
 use lib.Dec.{eqb, ltb}
 use borrow.Author.Tests.{eqb-true, ne-eqb, ltb-true, lt-ltb}
 use Rattle.theory.specs.Elements.{Each}
 use Rattle.semantics.specs.Lists.{concatMap}
-use Rattle.semantics.specs.Plans.{Plan, scan, join, encode, tables, misplaced, spelled, firstPlan, planOf}
+use Rattle.semantics.specs.Plans.{Plan, scan, join, encode, tables, leftmost, misplaced, spelled, firstPlan, planOf}
 use Rattle.theory.specs.Rules.{Small, joins}
 use Rattle.theory.proofs.Cases.{cases}
 
@@ -18,7 +18,16 @@ pub joins-tables : (p : Plan) → length (tables p) ≡ joins p + 1
 joins-tables (scan t) = refl
 joins-tables (join l r) = omega (arith, length-append (tables l) (tables r), joins-tables l, joins-tables r)
 
--- and 2 k - 1 bytes
+-- so it names a table
+pub tables-some : (p : Plan) → 0 < length (tables p)
+tables-some p = omega (arith, joins-tables p)
+
+-- the first table in plan order is the leftmost one
+pub first-table : (p : Plan) → getD (tables p) 0 0 ≡ leftmost p
+first-table (scan t) = refl
+first-table (join l r) = List·getD-append (tables l) (tables r) 0 0 (tables-some l) ∙ first-table l
+
+-- a plan of k tables has 2 k - 1 bytes
 pub plan-length : (p : Plan) → length (encode p) + 1 ≡ 2 * length (tables p)
 plan-length (scan t) = refl
 plan-length (join l r) = omega (arith, plan-length l, plan-length r, length-append (encode l) (encode r), length-append (tables l) (tables r))

@@ -1,4 +1,4 @@
-use Rattle.plans.proofs.Whole.{nothing-is}
+use Rattle.scheduling.proofs.Whole.{nothing-is}
 use Rattle.plans.proofs.Scratch.{follows, accepted, as-sent, formable, formable-for, plan-refused}
 use borrow.Author.Needs.{needs}
 use Rattle.plans.proofs.admission.admit_plan.Statement.{statement}

@@ -1,7 +1,7 @@
 use native.Mathlib.Omega.{arith}
 use Rattle.theory.proofs.Reading.{bytes-of}
 use Rattle.words.proofs.Parts.{rest}
-use Rattle.plans.proofs.Whole.{nothing-is}
+use Rattle.scheduling.proofs.Whole.{nothing-is}
 use Rattle.plans.proofs.Verdicts.{catalogued, file-refused, plan-inside, file-planned}
 use borrow.Author.Needs.{needs}
 use Rattle.plans.proofs.admission.rule.Statement.{statement}

@@ -1,7 +1,7 @@
 use mathlib.Core.Path.{sym}
 use lib.Seq.{length-take-le}
 use native.Mathlib.Omega.{arith}
-use Rattle.plans.proofs.Whole.{nothing-is}
+use Rattle.scheduling.proofs.Whole.{nothing-is}
 use Rattle.plans.proofs.Formed.{formed-refused, plan-in, formed-follows, formed-admission}
 use borrow.Author.Needs.{needs}
 use Rattle.plans.proofs.admission.with_formed.Statement.{statement}

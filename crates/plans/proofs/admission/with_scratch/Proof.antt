@@ -1,6 +1,6 @@
 use mathlib.Core.Path.{refl}
 use native.Mathlib.Omega.{arith}
-use Rattle.plans.proofs.Whole.{nothing-is}
+use Rattle.scheduling.proofs.Whole.{nothing-is}
 use Rattle.plans.proofs.Scratch.{plannable, first-low, countable, scratch-short, scratch-enough}
 use borrow.Author.Needs.{needs}
 use Rattle.plans.proofs.admission.with_scratch.Statement.{statement}
