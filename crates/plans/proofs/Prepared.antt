@@ -4,13 +4,12 @@ use mathlib.Core.Path.{_≡_, refl, sym, ap, _∙_, fun-ext}
 use mathlib.Core.List.{List, _∷_, map}
 use native.Mathlib.Omega.{arith}
 use lib.ListN.{length, getD, length-map}
-use Rattle.theory.specs.Elements.{Each}
 use Rattle.semantics.specs.Files.{Table, tableWith, hasBit, read}
 use Rattle.theory.specs.Rules.{Fitting, WithinRules}
 use Rattle.semantics.specs.Plans.{Plan, tables, leftmost}
 use Rattle.semantics.specs.Shapes.{noTable, shapeOf, scratchNeed}
 use Rattle.semantics.specs.Outcome.{admitted, verdict}
-use Rattle.theory.proofs.Lists.{Each-map, Each-append, Each-of-map}
+use Rattle.theory.proofs.Lists.{Each-map, Each-of-map}
 use Rattle.theory.proofs.Reading.{tables-few, tables-fit}
 use Rattle.theory.proofs.Rules.{verdict-cases, rules-tables, verdict-within, verdict-rules, tables-count, rows-count}
 use Rattle.words.specs.Arrays.{padded}
@@ -22,7 +21,7 @@ use Rattle.tables.specs.Catalogs.{catalogOf}
 use Rattle.theory.proofs.Mendable.{small-each}
 use Rattle.tables.proofs.Catalogs.{mask-at, rows-at, start-at}
 use Rattle.plans.specs.declared.admission.Verdict.the-variants as decision
-use Rattle.scheduling.specs.Schedules.{Schedule, rowCounts, turnsIn, placementOf, placementsIn, scheduleWith, scheduleOf}
+use Rattle.scheduling.specs.Schedules.{Schedule, rowCounts, turnsIn, placementsIn, scheduleWith, scheduleOf}
 use Rattle.plans.specs.Admissions.{verdictOf, scheduleFor, Decided, decidedOf, AdmittedAs, AdmittedOf}
 use Rattle.plans.specs.Prepared.{Sized, Prepared}
 use Rattle.scheduling.proofs.Growing.{turns-length}

@@ -1,13 +1,13 @@
 -- Answer 10, and the schedule that an admitted plan gets.
 use Prim.Native.Nat.{ℕ, _+_, _<_, _≤_}
-use mathlib.Core.Path.{_≡_, refl, sym, ap, ap₂, _∙_, fun-ext}
+use mathlib.Core.Path.{_≡_, sym, ap, ap₂, _∙_, fun-ext}
 use mathlib.Core.Bool.{true}
 use mathlib.Core.List.{List, map}
 use native.Mathlib.Omega.{arith}
-use lib.ListN.{length, getD, List·getD-append}
+use lib.ListN.{length, getD}
 use borrow.Author.Tests.{lt-ltb, le-ltb}
 use Rattle.semantics.specs.Files.{Table}
-use Rattle.semantics.specs.Plans.{Plan, scan, join, tables, leftmost, planOf}
+use Rattle.semantics.specs.Plans.{Plan, tables, leftmost, planOf}
 use Rattle.semantics.specs.Shapes.{shapeOf, scratchNeed}
 use Rattle.semantics.specs.Outcome.{refused, admitted, sentVerdict, planVerdict, scratchVerdict}
 use Rattle.theory.specs.Rules.{WithinRules}

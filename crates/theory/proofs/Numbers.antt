@@ -2,14 +2,14 @@
 use mathlib.Core.Path.{_≡_, refl, ap, _∙_, subst}
 use mathlib.Core.Bool.{Bool, false, _&&_, or-false}
 use mathlib.Core.List.{List, [], _∷_, _++_, map, append-nil}
-use Prim.Native.Nat.{ℕ, zero, suc, _+_, _≤_, _<_}
+use Prim.Native.Nat.{ℕ, zero, suc, _+_, _-_, _≤_, _<_}
 use native.Mathlib.Omega.{arith}
 use native.Mathlib.Nat.{zero-add, add-zero}
 use lib.ListN.{length, getD}
 use lib.Dec.{eqb}
 use borrow.Author.Tests.{eqb-true, eqb-false, ne-eqb}
 use Rattle.theory.specs.Elements.{oneIf, Each, onlyIf, Rising}
-use Rattle.semantics.specs.Lists.{any, sum, filter, concatMap, from}
+use Rattle.semantics.specs.Lists.{any, sum, filter, consIf, concatMap, from, upTo}
 use Rattle.theory.proofs.Cases.{cases}
 use Rattle.theory.proofs.Lists.{Each-map, Each-filter, filter-append, getD-map}
 
@@ -42,6 +42,21 @@ from-split i (suc n) m =
 -- one number more
 pub filter-last : (q : ℕ → Bool) (i : ℕ) → filter q (from 0 (i + 1)) ≡ filter q (from 0 i) ++ filter q (i ∷ [])
 filter-last q i = ap (filter q) (from-split 0 i 1) ∙ filter-append q (from 0 i) ((0 + i) ∷ []) ∙ ap (λ j. filter q (from 0 i) ++ filter q (j ∷ [])) (zero-add i)
+
+-- the numbers below n that pass a test, from i on: one more, none from n on, all from 0 on
+pub passing-step : (q : ℕ → Bool) (i n : ℕ) → i < n → filter q (from i (n - i)) ≡ consIf (q i) i (filter q (from (suc i) (n - suc i)))
+passing-step q i n h = let e : n - i ≡ suc (n - suc i) = omega arith in rw e
+
+pub passing-none : (q : ℕ → Bool) (i n : ℕ) → i ≡ n → filter q (from i (n - i)) ≡ []
+passing-none q i n e = let z : n - i ≡ 0 = omega (arith, e) in rw z
+
+pub passing-all : (q : ℕ → Bool) (n : ℕ) → filter q (from 0 (n - 0)) ≡ filter q (upTo n)
+unfolding upTo
+passing-all q n = let z : n - 0 ≡ n = omega arith in rw z
+
+-- those from the next number on are above
+pub passing-above : (q : ℕ → Bool) (i m : ℕ) → Each (λ x. i < x) (filter q (from (suc i) m))
+passing-above q i m = Each-filter (λ x. i < x) q (from (suc i) m) (Each-map (λ x. (suc i ≤ x) × (x < suc i + m)) (λ x. i < x) (λ x h. omega arith) (from (suc i) m) (from-lt (suc i) m))
 
 -- what each number of the row has, each number in its range has
 pub from-at : (P : ℕ → Type 0) (i n a : ℕ) → Each P (from i n) → i ≤ a → a < i + n → P a
