@@ -73,7 +73,11 @@ check-python: lib
 check-commands: lib
 	$(PYTHON) tests/run.py test_commands test_join test_damaged test_documents
 
-.PHONY: lib check-users check-c check-python check-commands
+# What the prover said of the must-fail edits in the last run of the gate: each is to be refused for what it says.
+check-edits:
+	$(PYTHON) tests/run.py test_edits
+
+.PHONY: lib check-users check-c check-python check-commands check-edits
 
 # make bench measures the join beside an unproved twin, a HashMap join and SQLite (docs/PERFORMANCE.md); make check-bench says only
 # whether they agree, after the twin's own tests. Both need cargo and Debian's sqlite3, the instructions valgrind too.
@@ -138,7 +142,7 @@ clean:
 help:
 	@printf '%s\n' \
 	    'make run [FILE=path]   joins a file, or the sample; 2 to 4 minutes the first time, since all is proved first, then a second' \
-	    'make test              rt ci: proves everything from nothing and tries the must-fail edits; up to 20 minutes' \
+	    'make test              rt ci: proves everything from nothing and tries the must-fail edits; 10 to 15 minutes' \
 	    'make lib               target/lib/libpigrozd.a and libpigrozd.so; 2 to 4 minutes the first time, 20 seconds after make run' \
 	    'make install [PREFIX=/usr/local] [DESTDIR=]' \
 	    '                       header, libraries, pkg-config file, program and manual pages; a second after make lib and make run' \
@@ -147,6 +151,7 @@ help:
 	    'make check-c           the header, the C examples and an installation; seconds after make lib' \
 	    'make check-python      the Python package over the shared library; seconds after make lib' \
 	    'make check-commands    the commands of the Python package; 15 seconds after make lib' \
+	    'make check-edits       why each must-fail edit was refused in the last rt ci; a second' \
 	    'make bench             measures the join beside other joins; 2 minutes' \
 	    'make check-bench       only whether these joins agree; 15 seconds after make lib' \
 	    'make clean             removes target/, with all that is proved and built' \
