@@ -1,5 +1,5 @@
-"""Tests why must-fail edits were refused, by what the prover said of them in the last run of rt ci or rt must-fail. The gate itself
-only sees that they were. Prints where each was refused first, and of what."""
+"""Tests why must-fail edits were refused, by what the prover said of them in the last run of rt ci or rt must-fail.
+The gate itself only sees that they were. Prints where each was refused first, and of what."""
 import glob
 import os
 import re
@@ -11,15 +11,15 @@ LINE = re.compile(r"^(?:note: )?(?P<place>\S+:\d+:\d+): (?:error: |(?=it is not 
 
 
 def refusals(file, name):
-    """Places inside the crate, and why the prover refused what stands there. What only rests on such a place is left out."""
+    """Places inside the crate, and why the prover refused what stands there; not what only rests on it."""
     with open(file, encoding="utf-8", errors="replace") as f:
-        found = [(m["place"].split("/must-fail/%s/" % name)[-1], m["why"]) for m in LINE.finditer(f.read())]
-    return [(place, why) for place, why in found if "was not admitted" not in why]
+        found = [(m["place"], m["why"]) for m in LINE.finditer(f.read()) if "was not admitted" not in m["why"]]
+    return [(place.split("/must-fail/%s/" % name)[-1], why) for place, why in found]
 
 
 class Edits(unittest.TestCase):
-    """A definition is refused only if it is none: a name that its file does not import, a wrong type, no term. So an edit is to be
-    refused in a proof, or at a function of the code."""
+    """A definition is refused only if it is none: a name that its file does not import, a wrong type, no term. So an
+    edit is to be refused in a proof, or at a function of the code."""
 
     def test_refused_for_what_they_say(self):
         logs = sorted(glob.glob(path("target", "must-fail", "*", "*", ".log")))
