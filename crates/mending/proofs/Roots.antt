@@ -19,9 +19,9 @@ use Rattle.theory.proofs.Cases.{cases}
 use Rattle.theory.proofs.Lists.{filter-append}
 use Rattle.theory.proofs.Mending.{cost-bound, left-holds, right-holds}
 use Rattle.mending.specs.Places.{PlanAt}
-use Rattle.mending.specs.Parts.{shapeIn, JoinIn, sidePlan, choose, slotOf, Sided}
+use Rattle.mending.specs.Parts.{shapeIn, JoinIn, sidePlan, choose, slotOf, Sided, SideFor}
 use Rattle.mending.specs.Hanging.{holdsKey, heldBy, candidates}
-use Rattle.mending.specs.Rooting.{unpicked, betterOf, packed, unpacked, rowsAdded, added, sideCost, sideRoot, RootPicked, RootsRemembered, Buildable, MendableAt, bytesFrom, SideSearched}
+use Rattle.mending.specs.Rooting.{unpicked, betterOf, packed, unpacked, rowsAdded, added, sideCost, sideRoot, RootPicked, RootsRemembered, RootAsked, Buildable, MendableAt, bytesFrom, SideSearched}
 use Rattle.mending.specs.declared.parts.Side.{Side}
 use Rattle.mending.specs.declared.rooting.Candidate.{Candidate}
 use Rattle.mending.proofs.Places.{plan-end, plan-span}
@@ -94,21 +94,39 @@ side-holders : (masks rows : List ℕ) (right : Bool) (l r : Plan) → Mendable 
 side-holders masks rows true l r ok = right-holds (shapeIn masks rows) l r (ok .0)
 side-holders masks rows false l r ok = left-holds (shapeIn masks rows) l r (ok .0)
 
-module _ (s masks rows : List ℕ) (at : ℕ) (right : Bool) (side : Side) (f : SideAt s masks at right side) (j : JoinIn s at) (short : length s ≤ 31) (few : (t : ℕ) → getD rows t 0 ≤ 4096) where
+-- a side that is searched: of the join at an index of a short plan, whose tables have few rows
+pub record SideKnown (s masks rows : List ℕ) (at : ℕ) (right : Bool) (side : Side) : Type 0 where
+  pub is : SideAt s masks at right side
+  pub join : JoinIn s at
+  pub short : length s ≤ 31
+  pub few : (t : ℕ) → getD rows t 0 ≤ 4096
+
+pub side-known : {s masks rows ends sets best : List ℕ} {at : ℕ} {right : Bool} {side : Side} → SideFor ends sets at right side → RootAsked s masks rows ends sets best at
+    → SideKnown s masks rows at right side
+side-known f q = record { is = f _ _ (q .0 .surveyed); join = q .2; short = q .0 .short; few = q .0 .few }
+
+module _ {s masks rows : List ℕ} {at : ℕ} {right : Bool} {side : Side} (K : SideKnown s masks rows at right side) where
+  abbrev f : SideAt s masks at right side
+  f = K .is
+
+  abbrev j : JoinIn s at
+  j = K .join
+
   abbrev here : Sided masks at right (j .left) (j .right) (j .middle) (j .end) side
   here = f (j .left) (j .right) (j .middle) (j .end) (j .lefts) (j .rights)
 
   -- its slot, and that its bytes lie behind the join's
-  pub side-bounds : (side .slot < 64) × (at < side .start) × (side .start < side .end) × (side .end ≤ length s)
+  pub side-bounds : (side .slot < 64) × (at < side .start) × (side .start < side .end) × (side .end ≤ length s) × (length s ≤ 31)
   side-bounds =
       let a = plan-span s (at + 1) (j .left) (j .middle) (j .lefts) in
       let b = plan-span s (j .middle) (j .right) (j .end) (j .rights) in
-      go right (here .slot) (here .start) (here .end) a b
+      go right (here .slot) (here .start) (here .end) a b (K .short)
     where
       go : (right : Bool) → {m e : ℕ} → side .slot ≡ slotOf right at → side .start ≡ choose right m (at + 1) → side .end ≡ choose right e m
-          → (at + 1 < m) × (m ≤ length s) × (at + 1 < length s) → (m < e) × (e ≤ length s) × (m < length s) → (side .slot < 64) × (at < side .start) × (side .start < side .end) × (side .end ≤ length s)
-      go true p q r a b = omega arith
-      go false p q r a b = omega arith
+          → (at + 1 < m) × (m ≤ length s) × (at + 1 < length s) → (m < e) × (e ≤ length s) × (m < length s) → length s ≤ 31
+          → (side .slot < 64) × (at < side .start) × (side .start < side .end) × (side .end ≤ length s) × (length s ≤ 31)
+      go true p q r a b c = omega arith
+      go false p q r a b c = omega arith
 
   stands-at : (x y : Plan) (m e : ℕ) → PlanAt s (at + 1) x m → PlanAt s m y e → PlanAt s (side .start) (sidePlan right x y) (side .end)
   stands-at x y m e u v = let q = f x y m e u v in rw (q .start, q .end) (side-stands s at right x y m e u v)
@@ -136,14 +154,14 @@ module _ (s masks rows : List ℕ) (at : ℕ) (right : Bool) (side : Side) (f : 
       rw (more-is n ∙ ap (λ l. candidates masks (side .key) (bytesFrom s (side .start) n) ++ l) (candidate-is masks (side .key) [] t h))
       (picked-more (sideCost (shapeIn masks rows) right (sidePlan right x y)) s pick (side .start + n) (c + more) (omega (arith, side-bounds))
       (ap₂ (λ a b. a + b) is (adds ∙ rows-added masks rows right t))
-      (omega (arith, cost-small s masks rows short few (side .start) (sidePlan right x y) (side .end) t st, added-small s masks rows short few right t, rows-added masks rows right t))
+      (omega (arith, cost-small s masks rows (K .short) (K .few) (side .start) (sidePlan right x y) (side .end) t st, added-small s masks rows (K .short) (K .few) right t, rows-added masks rows right t))
       (candidates masks (side .key) (bytesFrom s (side .start) n)) (p x y m e u v))
 
   -- the sum that the code forms
   pub sum-small : (n c more : ℕ) → ((p : Plan) (e : ℕ) → PlanAt s (side .start) p e → c ≡ cost (shapeIn masks rows) p (getD s (side .start + n) 0)) → more ≡ rowsAdded rows right (getD s (side .start + n) 0) → c + more ≤ 131072
   sum-small n c more cs adds =
       let st = stands-at (j .left) (j .right) (j .middle) (j .end) (j .lefts) (j .rights) in
-      omega (arith, cs (sidePlan right (j .left) (j .right)) (side .end) st, cost-small s masks rows short few (side .start) (sidePlan right (j .left) (j .right)) (side .end) (getD s (side .start + n) 0) st, rows-added masks rows right (getD s (side .start + n) 0), added-small s masks rows short few right (getD s (side .start + n) 0))
+      omega (arith, cs (sidePlan right (j .left) (j .right)) (side .end) st, cost-small s masks rows (K .short) (K .few) (side .start) (sidePlan right (j .left) (j .right)) (side .end) (getD s (side .start + n) 0) st, rows-added masks rows right (getD s (side .start + n) 0), added-small s masks rows (K .short) (K .few) right (getD s (side .start + n) 0))
 
   candidates-holders : (x y : Plan) (m e : ℕ) → PlanAt s (at + 1) x m → PlanAt s m y e → (n : ℕ) → side .start + n ≡ side .end
       → candidates masks (side .key) (bytesFrom s (side .start) n) ≡ holders (shapeIn masks rows) (joinAttributes (shapeIn masks rows) x y) (sidePlan right x y)

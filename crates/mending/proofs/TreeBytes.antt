@@ -79,7 +79,7 @@ module _ (s masks rows : List ℕ) (at place : ℕ) (split : Split) (x : SplitSi
     other-bytes : (hung : List ℕ) → Spelt s masks rows (split .other) (pick .place) hung → take (split .rest) hung ≡ encode (treeFor (shapeIn masks rows) (x .other) (x .chosen))
     other-bytes hung f =
         let n : split .other + split .rest - split .other ≡ split .rest = omega arith in
-        ap (λ k. take k hung) (sym n) ∙ f (x .other) (split .other + split .rest) (x .otherStands) ∙ ap (λ b. encode (treeFor (shapeIn masks rows) (x .other) b)) (picked-is s masks rows at place split x w pick picks)
+        ap (λ k. take k hung) (sym n) ∙ f (x .other) (split .other + split .rest) (x .otherStands) ∙ ap (λ b. encode (treeFor (shapeIn masks rows) (x .other) b)) (picked-is x w pick picks)
 
     pub taken-spelt : (tree hung out : List ℕ) → length tree ≡ 31 → length hung ≡ 31 → Spelt s masks rows (split .own) place tree → Spelt s masks rows (split .other) (pick .place) hung
         → HungBytes masks (split .key) (take (split .size) tree) (take (split .rest) hung) out → getD s at 0 ≡ 255 → Spelt s masks rows at place out
@@ -88,7 +88,7 @@ module _ (s masks rows : List ℕ) (at place : ℕ) (split : Split) (x : SplitSi
         let ks = joinAttributes S (x .left) (x .right) in
         let t = treeFor S (x .own) (getD s place 0) in
         let c = treeFor S (x .other) (x .chosen) in
-        let (i, j) = plan-unique s at p (join (x .left) (x .right)) e (x .end) st (joined s masks rows at place split x w pick picks k) in
+        let (i, j) = plan-unique s at p (join (x .left) (x .right)) e (x .end) st (joined x w pick picks k) in
         let fit = sizes-fit in
         let la : length (take (split .size) tree) ≡ split .size = length-take-le (split .size) tree (omega arith) in
         let lb : length (take (split .rest) hung) ≡ split .rest = length-take-le (split .rest) hung (omega arith) in

@@ -137,15 +137,15 @@ module _ (s masks rows : List ℕ) (at place : ℕ) (split : Split) (l r : Plan)
         later = let a = plan-span s (at + 1) l m u in omega arith;
       }
 
-pub buildable-planned : (s masks rows : List ℕ) (at place : ℕ) → Buildable s masks rows at place → Planned s at
-buildable-planned s masks rows at place b = record { plan = b .plan; end = b .end; stands = b .stands }
+pub buildable-planned : {s masks rows : List ℕ} {at place : ℕ} → Buildable s masks rows at place → Planned s at
+buildable-planned b = record { plan = b .plan; end = b .end; stands = b .stands }
 
-pub buildable-join : (s masks rows : List ℕ) (at place : ℕ) → getD s at 0 ≡ 255 → Buildable s masks rows at place → JoinIn s at
-buildable-join s masks rows at place k b = planned-join s at k (buildable-planned s masks rows at place b)
+pub buildable-join : {s masks rows : List ℕ} {at place : ℕ} → getD s at 0 ≡ 255 → Buildable s masks rows at place → JoinIn s at
+buildable-join {s} {at = at} k b = planned-join s at k (buildable-planned b)
 
-pub taken : (s masks rows : List ℕ) (at place : ℕ) (split : Split) → getD s at 0 ≡ 255 → Distinct s → Buildable s masks rows at place
+pub taken : {s masks rows : List ℕ} {at place : ℕ} {split : Split} → getD s at 0 ≡ 255 → Distinct s → Buildable s masks rows at place
     → ((x y : Plan) (m e : ℕ) → PlanAt s (at + 1) x m → PlanAt s m y e → SplitAt masks at place x y m e split) → SplitSides s masks rows at place split
-taken s masks rows at place split k d b f = go (b .plan) (b .end) (b .stands) (b .mendable) (b .to)
+taken {s} {masks} {rows} {at} {place} {split} k d b f = go (b .plan) (b .end) (b .stands) (b .mendable) (b .to)
   where
     go : (p : Plan) (e : ℕ) → PlanAt s at p e → Mendable (shapeIn masks rows) p → place < e → SplitSides s masks rows at place split
     go (scan t) e h ok lt = let a : getD s at 0 ≡ t = h .1 in let c : t < 16 = h .2 in absurd (omega arith)
@@ -155,7 +155,7 @@ taken s masks rows at place split k d b f = go (b .plan) (b .end) (b .stands) (b
         let after : at < place = omega (arith, b .from) in
         cases (split .left) (λ g. taken-left s masks rows at place split l r m e u v ok d (b .table) after lt (f l r m e u v) g) (λ g. taken-right s masks rows at place split l r m e u v ok d (b .table) after lt (f l r m e u v) g)
 
-module _ (s masks rows : List ℕ) (at place : ℕ) (split : Split) (x : SplitSides s masks rows at place split) (w : getD s place 0 < 16) where
+module _ {s masks rows : List ℕ} {at place : ℕ} {split : Split} (x : SplitSides s masks rows at place split) (w : getD s place 0 < 16) where
   pub own-buildable : Buildable s masks rows (split .own) place
   own-buildable = record { plan = x .own; end = split .own + split .size; stands = x .ownStands; mendable = x .ownMendable; from = x .ownPlace .0; to = x .ownPlace .1; table = w }
 

@@ -1,5 +1,4 @@
 use mathlib.Core.List.{[]}
-use mathlib.Core.Bool.{true, false}
 use native.Mathlib.Omega.{arith}
 use Rattle.mending.proofs.Sides.{surveyed-bounds}
 use Rattle.mending.proofs.Roots.{side-bounds}
@@ -18,10 +17,10 @@ side-of-requires-2 : tie.Need-side-of-requires-2
 side-of-requires-2 c κs = omega (arith, surveyed-bounds (c .before .before .args .code .now) (c .before .before .args .masks .now) (c .before .before .args .ends .now) (c .before .before .args .sets .now) (c .before .before .args .at) (c .before .before .pre .0) (c .before .before .pre .1), c .before .before .pre .2)
 
 side-holds-requires : tie.Need-side-holds-requires
-side-holds-requires c κs = omega (arith, side-bounds (c .before .before .before .args .code .now) (c .before .before .before .args .masks .now) [] (c .before .before .before .args .at) false (c .before .side-of .result) (c .before .side-of .ensures _ _ (c .before .before .before .pre .0)) (c .before .before .before .pre .1) (c .before .before .before .pre .2) (λ t. omega arith))
+side-holds-requires c κs = omega (arith, side-bounds {rows = []} (record { is = c .before .side-of .ensures _ _ (c .before .before .before .pre .0); join = c .before .before .before .pre .1; short = c .before .before .before .pre .2; few = λ t. omega arith }))
 
 side-holds-requires-2 : tie.Need-side-holds-requires-2
-side-holds-requires-2 c κs = omega (arith, side-bounds (c .before .before .before .before .before .args .code .now) (c .before .before .before .before .before .args .masks .now) [] (c .before .before .before .before .before .args .at) true (c .before .before .side-of2 .result) (c .before .before .side-of2 .ensures _ _ (c .before .before .before .before .before .pre .0)) (c .before .before .before .before .before .pre .1) (c .before .before .before .before .before .pre .2) (λ t. omega arith))
+side-holds-requires-2 c κs = omega (arith, side-bounds {rows = []} (record { is = c .before .before .side-of2 .ensures _ _ (c .before .before .before .before .before .pre .0); join = c .before .before .before .before .before .pre .1; short = c .before .before .before .before .before .pre .2; few = λ t. omega arith }))
 
 returns : tie.Need-returns
 returns c = λ rows x y m e u v. let p = c .before .before .before .before .side-of .ensures _ _ (c .before .before .before .before .before .before .pre .0) x y m e u v in let q = c .before .before .before .side-of2 .ensures _ _ (c .before .before .before .before .before .before .pre .0) x y m e u v in both-held _ rows _ x y m e (c .before .before .before .before .side-of .result) (c .before .before .before .side-of2 .result) p q (c .before .before .side-holds .result) (c .side-holds2 .result) (c .before .before .side-holds .ensures x (rw (p .start, p .end) u)) (c .side-holds2 .ensures y (rw (q .start, q .end) v)) (c .before .if1 .taken)

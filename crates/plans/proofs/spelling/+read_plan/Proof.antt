@@ -27,40 +27,29 @@ read-plan-returns :
     read-plan-lts.Need-returns (read-plan-below t, read-plan.Post) (read-plan-at t) read-plan.Post
 read-plan-returns t c = read-past _ _ (c .if1 .taken)
 
-read-plan-shared-slice-read-b : (t : ℕ) → read-plan-lts.Need-shared-slice-read-b (
+-- the contracts of what it calls
+abbrev read-plan-claims : ℕ → read-plan-lts.Claims
+read-plan-claims t = (
   read-plan-below t,
   read-plan.Post,
-) (read-plan-at t) read-plan.Post
+)
+
+read-plan-shared-slice-read-b : (t : ℕ) → read-plan-lts.Need-shared-slice-read-b (read-plan-claims t) (read-plan-at t) read-plan.Post
 read-plan-shared-slice-read-b t c = search needs
 
-read-plan-add-read-plan : (t : ℕ) → read-plan-lts.Need-add-read-plan (
-  read-plan-below t,
-  read-plan.Post,
-) (read-plan-at t) read-plan.Post
+read-plan-add-read-plan : (t : ℕ) → read-plan-lts.Need-add-read-plan (read-plan-claims t) (read-plan-at t) read-plan.Post
 read-plan-add-read-plan t c = search needs
 
-read-plan-read-plan-requires : (t : ℕ) → read-plan-lts.Need-read-plan-requires (
-  read-plan-below t,
-  read-plan.Post,
-) (read-plan-at t) read-plan.Post
+read-plan-read-plan-requires : (t : ℕ) → read-plan-lts.Need-read-plan-requires (read-plan-claims t) (read-plan-at t) read-plan.Post
 read-plan-read-plan-requires t c κs = (omega arith, tt)
 
-read-plan-enum-known-left : (t : ℕ) → read-plan-lts.Need-enum-known-left (
-  read-plan-below t,
-  read-plan.Post,
-) (read-plan-at t) read-plan.Post
+read-plan-enum-known-left : (t : ℕ) → read-plan-lts.Need-enum-known-left (read-plan-claims t) (read-plan-at t) read-plan.Post
 read-plan-enum-known-left t c = search needs
 
-read-plan-read-plan-requires-2 : (t : ℕ) → read-plan-lts.Need-read-plan-requires-2 (
-  read-plan-below t,
-  read-plan.Post,
-) (read-plan-at t) read-plan.Post
+read-plan-read-plan-requires-2 : (t : ℕ) → read-plan-lts.Need-read-plan-requires-2 (read-plan-claims t) (read-plan-at t) read-plan.Post
 read-plan-read-plan-requires-2 t c κs = let l = c .before .before .before .read-plan .ensures .later _ (c .before .left .given .1) in (omega arith, tt)
 
-read-plan-enum-known-left-2 : (t : ℕ) → read-plan-lts.Need-enum-known-left-2 (
-  read-plan-below t,
-  read-plan.Post,
-) (read-plan-at t) read-plan.Post
+read-plan-enum-known-left-2 : (t : ℕ) → read-plan-lts.Need-enum-known-left-2 (read-plan-claims t) (read-plan-at t) read-plan.Post
 read-plan-enum-known-left-2 t c = search needs
 
 read-plan-add-t15 :
