@@ -71,7 +71,7 @@ check-python: lib
 	    test_not_recorded test_formats test_install
 
 check-commands: lib
-	$(PYTHON) tests/run.py test_commands test_join test_damaged test_documents
+	$(PYTHON) tests/run.py test_commands test_join test_damaged test_documents test_sources
 
 # What the prover said of the must-fail edits in the last run of the gate: each is to be refused for what it says.
 check-edits:

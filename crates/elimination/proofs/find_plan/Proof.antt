@@ -3,10 +3,6 @@ use borrow.Author.Needs.{needs}
 use Rattle.elimination.proofs.Searches.{search-stuck, plan-writable, search-found}
 use Rattle.elimination.proofs.find_plan.Statement.{statement}
 use Rattle.elimination.proofs.find_plan.Tie as tie
-use Rattle.elimination.proofs.find_plan.Reads as reads
-use Rattle.elimination.proofs.find_plan.Lts as lts
-use Rattle.elimination.proofs.steps.hang_all.Reads as hang-all-reads
-use Rattle.elimination.proofs.writing.write_plan.Reads as write-plan-reads
 
 hang-all-requires : tie.Need-hang-all-requires
 hang-all-requires c κs = search needs

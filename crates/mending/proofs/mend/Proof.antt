@@ -3,12 +3,6 @@ use Rattle.mending.proofs.WholePlans.{kept-none, sent-spanned, sent-pla
 use borrow.Author.Needs.{needs}
 use Rattle.mending.proofs.mend.Statement.{statement}
 use Rattle.mending.proofs.mend.Tie as tie
-use Rattle.mending.proofs.mend.Reads as reads
-use Rattle.mending.proofs.mend.Lts as lts
-use Rattle.mending.proofs.lacking.first_lacking.Reads as first-lacking-reads
-use Rattle.mending.proofs.parts.survey.Reads as survey-reads
-use Rattle.mending.proofs.whole_root.Reads as whole-root-reads
-use Rattle.mending.proofs.writing.write_tree.Reads as write-tree-reads
 
 survey-requires : tie.Need-survey-requires
 survey-requires c κs = (c .before .before .before .pre .0 .words, sent-spanned (c .before .before .before .args .code .now) (c .before .before .before .args .masks .now) (c .before .before .before .args .rows .now) (c .before .before .before .pre .0), refl, refl)

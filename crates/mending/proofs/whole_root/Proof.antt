@@ -10,12 +10,6 @@ use Rattle.mending.specs.Rooting.{RootsRemembered}
 use Rattle.mending.specs.Whole.{WholeSearched}
 use Rattle.mending.proofs.whole_root.Statement.{statement}
 use Rattle.mending.proofs.whole_root.Tie as tie
-use Rattle.mending.proofs.whole_root.Reads as reads
-use Rattle.mending.proofs.whole_root.Lts as lts
-use Rattle.mending.proofs.hanging.is_table.Reads as is-table-reads
-use Rattle.mending.proofs.rooting.better.Reads as better-reads
-use Rattle.mending.proofs.rooting.no_pick.Reads as no-pick-reads
-use Rattle.mending.proofs.rooting.tree_for.Reads as tree-for-reads
 
 abbrev Inv-loop : tie.InvT-loop
 Inv-loop code masks rows ends sets best₀ pick₀ n₀ best pick n = RootsRemembered code masks rows best × WholeSearched code masks rows n pick × (n ≤ length code)

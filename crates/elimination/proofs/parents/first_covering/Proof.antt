@@ -7,8 +7,6 @@ use Rattle.elimination.specs.Parents.{Uncovered}
 use Rattle.elimination.proofs.Covering.{uncovered-begun, uncovered-all, uncovered-more, covered-here}
 use Rattle.elimination.proofs.parents.first_covering.Statement.{statement}
 use Rattle.elimination.proofs.parents.first_covering.Tie as tie
-use Rattle.elimination.proofs.parents.first_covering.Reads as reads
-use Rattle.elimination.proofs.parents.first_covering.Lts as lts
 
 abbrev Inv-loop : tie.InvT-loop
 Inv-loop masks rest count t shared x₀ x = Uncovered masks rest count t shared x

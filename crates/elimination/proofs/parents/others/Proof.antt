@@ -6,8 +6,6 @@ use Rattle.elimination.specs.Parents.{Gathered}
 use Rattle.elimination.proofs.Covering.{gathered-begun, gathered-gone, gathered-more, gathered-all}
 use Rattle.elimination.proofs.parents.others.Statement.{statement}
 use Rattle.elimination.proofs.parents.others.Tie as tie
-use Rattle.elimination.proofs.parents.others.Reads as reads
-use Rattle.elimination.proofs.parents.others.Lts as lts
 
 abbrev Inv-loop : tie.InvT-loop
 Inv-loop masks rest count t have₀ u₀ have u = Gathered masks rest count t u have

@@ -3,10 +3,6 @@ use borrow.Author.Needs.{needs}
 use Rattle.elimination.proofs.Covering.{parent-test}
 use Rattle.elimination.proofs.parents.parent_of.Statement.{statement}
 use Rattle.elimination.proofs.parents.parent_of.Tie as tie
-use Rattle.elimination.proofs.parents.parent_of.Reads as reads
-use Rattle.elimination.proofs.parents.parent_of.Lts as lts
-use Rattle.elimination.proofs.parents.first_covering.Reads as first-covering-reads
-use Rattle.elimination.proofs.parents.others.Reads as others-reads
 
 others-requires : tie.Need-others-requires
 others-requires c κs = search needs

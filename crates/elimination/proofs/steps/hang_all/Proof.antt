@@ -5,10 +5,6 @@ use Rattle.elimination.specs.Steps.{HungSoFar}
 use Rattle.elimination.proofs.Hanging.{so-far-begun, child-below, so-far-more, so-far-stuck, so-far-rooted}
 use Rattle.elimination.proofs.steps.hang_all.Statement.{statement}
 use Rattle.elimination.proofs.steps.hang_all.Tie as tie
-use Rattle.elimination.proofs.steps.hang_all.Reads as reads
-use Rattle.elimination.proofs.steps.hang_all.Lts as lts
-use Rattle.elimination.proofs.steps.lowest_remaining.Reads as lowest-remaining-reads
-use Rattle.elimination.proofs.steps.next_hanging.Reads as next-hanging-reads
 
 abbrev Inv-loop : tie.InvT-loop
 Inv-loop masks count rest₀ parents₀ left₀ rest parents left = HungSoFar masks count rest parents left

@@ -6,9 +6,6 @@ use Rattle.elimination.specs.Steps.{Unhung}
 use Rattle.elimination.proofs.Covering.{unhung-begun, unhung-all, unhung-gone, unhung-more, hung-here}
 use Rattle.elimination.proofs.steps.next_hanging.Statement.{statement}
 use Rattle.elimination.proofs.steps.next_hanging.Tie as tie
-use Rattle.elimination.proofs.steps.next_hanging.Reads as reads
-use Rattle.elimination.proofs.steps.next_hanging.Lts as lts
-use Rattle.elimination.proofs.parents.parent_of.Reads as parent-of-reads
 
 abbrev Inv-loop : tie.InvT-loop
 Inv-loop masks rest count t₀ t = Unhung masks rest count t

@@ -6,8 +6,6 @@ use Rattle.elimination.specs.Writing.{Joining}
 use Rattle.elimination.proofs.Written.{joining-begun, joining-skip, joining-room, joining-more, joining-all}
 use Rattle.elimination.proofs.writing.write_joins.Statement.{statement}
 use Rattle.elimination.proofs.writing.write_joins.Tie as tie
-use Rattle.elimination.proofs.writing.write_joins.Reads as reads
-use Rattle.elimination.proofs.writing.write_joins.Lts as lts
 
 abbrev Inv-loop : tie.InvT-loop
 Inv-loop parents count t code₀ at next₀ c₀ code next c = Joining parents count t code₀ at code next c

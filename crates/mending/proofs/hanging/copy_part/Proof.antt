@@ -7,8 +7,6 @@ use mathlib.Core.List.{_++_}
 use Rattle.mending.proofs.Hangs.{copy-more, copy-none}
 use Rattle.mending.proofs.hanging.copy_part.Statement.{statement}
 use Rattle.mending.proofs.hanging.copy_part.Tie as tie
-use Rattle.mending.proofs.hanging.copy_part.Reads as reads
-use Rattle.mending.proofs.hanging.copy_part.Lts as lts
 
 abbrev Inv-loop : tie.InvT-loop
 Inv-loop source from count out₀ to k₀ out k = (length out ≡ 31) × (k ≤ count) × (take (to + k) out ≡ take to out₀ ++ take k (drop from source))

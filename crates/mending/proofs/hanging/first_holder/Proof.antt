@@ -7,9 +7,6 @@ use Rattle.mending.proofs.Holders.{is-holder, not-holder}
 use Rattle.mending.proofs.Hangs.{none-more}
 use Rattle.mending.proofs.hanging.first_holder.Statement.{statement}
 use Rattle.mending.proofs.hanging.first_holder.Tie as tie
-use Rattle.mending.proofs.hanging.first_holder.Reads as reads
-use Rattle.mending.proofs.hanging.first_holder.Lts as lts
-use Rattle.mending.proofs.hanging.holds.Reads as holds-reads
 
 abbrev Inv-loop : tie.InvT-loop
 Inv-loop tree key masks j₀ j = (j ≤ length tree) × ((k : ℕ) → k < j → HolderAt masks key tree k → ⊥)

@@ -4,12 +4,6 @@ use native.Mathlib.Omega.{arith}
 use borrow.Author.Needs.{needs}
 use Rattle.mending.proofs.hanging.hang.Statement.{statement}
 use Rattle.mending.proofs.hanging.hang.Tie as tie
-use Rattle.mending.proofs.hanging.hang.Reads as reads
-use Rattle.mending.proofs.hanging.hang.Lts as lts
-use Rattle.mending.proofs.hanging.copy_part.Reads as copy-part-reads
-use Rattle.mending.proofs.hanging.first_holder.Reads as first-holder-reads
-use Rattle.mending.proofs.parts.part_at.Reads as part-at-reads
-use Rattle.mending.proofs.hanging.run_start.Reads as run-start-reads
 
 first-holder-requires : tie.Need-first-holder-requires
 first-holder-requires c κs = search needs

@@ -5,10 +5,6 @@ use Rattle.mending.proofs.Holders.{held-mark, tested}
 use borrow.Author.Needs.{needs}
 use Rattle.mending.proofs.hanging.holds.Statement.{statement}
 use Rattle.mending.proofs.hanging.holds.Tie as tie
-use Rattle.mending.proofs.hanging.holds.Reads as reads
-use Rattle.mending.proofs.hanging.holds.Lts as lts
-use Rattle.mending.proofs.hanging.is_table.Reads as is-table-reads
-use Rattle.words.proofs.index.Reads as index-reads
 
 is-table-requires : tie.Need-is-table-requires
 is-table-requires c κs = search needs

@@ -3,8 +3,6 @@ use mathlib.Core.Path.{sym}
 use borrow.Author.Tests.{lt-ltb, le-ltb}
 use Rattle.mending.proofs.hanging.is_table.Statement.{statement}
 use Rattle.mending.proofs.hanging.is_table.Tie as tie
-use Rattle.mending.proofs.hanging.is_table.Reads as reads
-use Rattle.mending.proofs.hanging.is_table.Lts as lts
 
 returns : tie.Need-returns
 returns c = sym (lt-ltb (c .before .args .b) 16 (omega arith))

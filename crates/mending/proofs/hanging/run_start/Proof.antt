@@ -6,8 +6,6 @@ use lib.ListN.{getD}
 use Rattle.mending.proofs.Hangs.{run-more}
 use Rattle.mending.proofs.hanging.run_start.Statement.{statement}
 use Rattle.mending.proofs.hanging.run_start.Tie as tie
-use Rattle.mending.proofs.hanging.run_start.Reads as reads
-use Rattle.mending.proofs.hanging.run_start.Lts as lts
 
 abbrev Inv-loop : tie.InvT-loop
 Inv-loop tree j i₀ i = (i ≤ j) × ((k : ℕ) → i ≤ k → k < j → getD tree k 0 ≡ 255)

@@ -5,10 +5,6 @@ use Rattle.mending.proofs.Roots.{side-bounds}
 use Rattle.mending.proofs.Lacks.{both-held, left-lacks}
 use Rattle.mending.proofs.lacking.both_hold.Statement.{statement}
 use Rattle.mending.proofs.lacking.both_hold.Tie as tie
-use Rattle.mending.proofs.lacking.both_hold.Reads as reads
-use Rattle.mending.proofs.lacking.both_hold.Lts as lts
-use Rattle.mending.proofs.lacking.side_holds.Reads as side-holds-reads
-use Rattle.mending.proofs.parts.side_of.Reads as side-of-reads
 
 side-of-requires : tie.Need-side-of-requires
 side-of-requires c κs = omega (arith, surveyed-bounds (c .before .args .code .now) (c .before .args .masks .now) (c .before .args .ends .now) (c .before .args .sets .now) (c .before .args .at) (c .before .pre .0) (c .before .pre .1), c .before .pre .2)

@@ -3,8 +3,6 @@ use Rattle.mending.specs.Lacking.{earlier}
 use borrow.Author.Needs.{needs}
 use Rattle.mending.proofs.lacking.or_else.Statement.{statement}
 use Rattle.mending.proofs.lacking.or_else.Tie as tie
-use Rattle.mending.proofs.lacking.or_else.Reads as reads
-use Rattle.mending.proofs.lacking.or_else.Lts as lts
 
 enum-known-first : tie.Need-enum-known-first
 enum-known-first c = search needs

@@ -2,9 +2,6 @@ use Rattle.mending.proofs.Lacks.{holds-first}
 use borrow.Author.Needs.{needs}
 use Rattle.mending.proofs.lacking.side_holds.Statement.{statement}
 use Rattle.mending.proofs.lacking.side_holds.Tie as tie
-use Rattle.mending.proofs.lacking.side_holds.Reads as reads
-use Rattle.mending.proofs.lacking.side_holds.Lts as lts
-use Rattle.mending.proofs.hanging.first_holder.Reads as first-holder-reads
 
 sub-first-holder : tie.Need-sub-first-holder
 sub-first-holder c = search needs

@@ -2,8 +2,6 @@ use Rattle.mending.proofs.Sides.{sided-right, sided-left}
 use borrow.Author.Needs.{needs}
 use Rattle.mending.proofs.parts.side_of.Statement.{statement}
 use Rattle.mending.proofs.parts.side_of.Tie as tie
-use Rattle.mending.proofs.parts.side_of.Reads as reads
-use Rattle.mending.proofs.parts.side_of.Lts as lts
 
 add-middle : tie.Need-add-middle
 add-middle c = search needs

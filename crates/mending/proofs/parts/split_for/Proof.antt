@@ -2,8 +2,6 @@ use Rattle.mending.proofs.Sides.{split-left, split-right}
 use borrow.Author.Needs.{needs}
 use Rattle.mending.proofs.parts.split_for.Statement.{statement}
 use Rattle.mending.proofs.parts.split_for.Tie as tie
-use Rattle.mending.proofs.parts.split_for.Reads as reads
-use Rattle.mending.proofs.parts.split_for.Lts as lts
 
 add-middle : tie.Need-add-middle
 add-middle c = search needs

@@ -6,9 +6,6 @@ use Rattle.mending.proofs.Bytes.{spanned-planned}
 use Rattle.mending.proofs.Sides.{SurveyedTo, survey-begun, survey-more, survey-done}
 use Rattle.mending.proofs.parts.survey.Statement.{statement}
 use Rattle.mending.proofs.parts.survey.Tie as tie
-use Rattle.mending.proofs.parts.survey.Reads as reads
-use Rattle.mending.proofs.parts.survey.Lts as lts
-use Rattle.mending.proofs.parts.part_at.Reads as part-at-reads
 
 abbrev Inv-loop : tie.InvT-loop
 Inv-loop code masks ends₀ sets₀ i₀ ends sets i = SurveyedTo code masks ends sets i × (i ≤ length code)

@@ -1,8 +1,6 @@
 use Rattle.mending.proofs.Picks.{better-taken, better-left}
 use Rattle.mending.proofs.rooting.better.Statement.{statement}
 use Rattle.mending.proofs.rooting.better.Tie as tie
-use Rattle.mending.proofs.rooting.better.Reads as reads
-use Rattle.mending.proofs.rooting.better.Lts as lts
 
 returns : tie.Need-returns
 returns c = better-taken _ _ _ (c .if1 .taken)

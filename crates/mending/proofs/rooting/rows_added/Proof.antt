@@ -3,9 +3,6 @@ use lib.ListN.{getD}
 use borrow.Author.Needs.{needs}
 use Rattle.mending.proofs.rooting.rows_added.Statement.{statement}
 use Rattle.mending.proofs.rooting.rows_added.Tie as tie
-use Rattle.mending.proofs.rooting.rows_added.Reads as reads
-use Rattle.mending.proofs.rooting.rows_added.Lts as lts
-use Rattle.words.proofs.index.Reads as index-reads
 
 index-requires : tie.Need-index-requires
 index-requires c κs = search needs
