@@ -30,10 +30,16 @@ SONAME := libpigrozd.so.$(firstword $(subst ., ,$(VERSION)))
 
 lib: say-first $(LIB)/libpigrozd.a $(LIB)/libpigrozd.so $(LIB)/$(SONAME)
 
+# Each function is an object of its own: a program that calls the join alone has nothing of the slow engine in it.
+OBJECTS = target/staticlib
+
 $(LIB)/libpigrozd.a: crates.txt $(SOURCES)
 	rt staticlib capi
+	rt staticlib capi_slow
 	mkdir -p $(LIB)
-	cp target/staticlib/libcapi.a $@
+	cd $(OBJECTS) && $(AR) x libcapi.a && $(AR) x libcapi_slow.a
+	rm -f $@
+	$(AR) rcs $@ $(OBJECTS)/capi.o $(OBJECTS)/capi_slow.o
 
 $(LIB)/libpigrozd.so: $(LIB)/libpigrozd.a include/pigrozd.h
 	$(CC) -shared -Wl,-soname,$(SONAME) -Wl,-z,defs -o $@ -Wl,--whole-archive $< -Wl,--no-whole-archive
@@ -43,8 +49,8 @@ $(LIB)/$(SONAME): $(LIB)/libpigrozd.so
 
 check-users: check-c check-python check-commands
 
-# The header as C and as C++, the examples with either library against their expected output, and an installation.
-check-c: lib target/bin/pigrozd
+# The header as C and as C++, the examples with either library against their expected output or the programs, and an installation.
+check-c: lib target/bin/pigrozd target/bin/accept
 	mkdir -p $(EXAMPLES)
 	$(CC) $(STRICT) -Iinclude -o $(EXAMPLES)/test_header tests/test_header.c $(LIB)/libpigrozd.a
 	$(EXAMPLES)/test_header
@@ -58,16 +64,19 @@ check-c: lib target/bin/pigrozd
 	diff examples/c/expected $(EXAMPLES)/printed
 	$(CC) $(STRICT) -Iinclude -o $(EXAMPLES)/join_file examples/c/join_file.c $(LIB)/libpigrozd.a
 	sh tests/test_join_file.sh $(EXAMPLES)/join_file
+	$(CC) $(STRICT) -Iinclude -o $(EXAMPLES)/accept_file examples/c/accept_file.c $(LIB)/libpigrozd.a
+	sh tests/test_accept.sh $(EXAMPLES)/accept_file
 	MAKE='$(MAKE)' CC='$(CC)' sh tests/test_install.sh
 	sh tests/test_pages.sh
 
-# The Python package: the library through it, the totals that it forms and their multiplications, plans mended and found by the
-# reference and by the package, tables and values, those that were not recorded, the file format, pip. Then its commands. What needs
-# NumPy or pandas is skipped, in words, where they are not there; make check-users PYTHON=/usr/bin/python3 names another.
+# The Python package: the library through it, the slow engine beside the join, the totals that the join forms and their
+# multiplications, plans mended and found by the reference and by the package, tables and values, those that were not recorded, the
+# file format, pip. Then its commands. What needs NumPy or pandas is skipped, in words, where they are not there;
+# make check-users PYTHON=/usr/bin/python3 names another.
 PYTHON = python3
 
 check-python: lib
-	$(PYTHON) tests/run.py test_library test_products test_mending test_mended_plans test_finding test_found_plans test_python \
+	$(PYTHON) tests/run.py test_library test_slow test_products test_mending test_mended_plans test_finding test_found_plans test_python \
 	    test_not_recorded test_formats test_install
 
 check-commands: lib
@@ -79,8 +88,8 @@ check-edits:
 
 .PHONY: lib check-users check-c check-python check-commands check-edits
 
-# make bench measures the join beside an unproved twin, a HashMap join and SQLite (docs/PERFORMANCE.md); make check-bench says only
-# whether they agree, after the twin's own tests. Both need cargo and Debian's sqlite3, the instructions valgrind too.
+# make bench measures the join beside an unproved twin, a HashMap join, SQLite and the slow engine (docs/PERFORMANCE.md); make
+# check-bench says only whether they agree, after the twin's own tests. Both need cargo and Debian's sqlite3, the instructions valgrind too.
 BENCH = target/bench/release/bench
 
 $(BENCH): lib $(wildcard bench/src/*.rs)
@@ -95,8 +104,9 @@ check-bench: $(BENCH)
 
 .PHONY: bench check-bench
 
-# make install puts the header, both libraries, the pkg-config file, the proved program and the manual pages below PREFIX. The
-# program is installed as pigrozd-file, since pigrozd is the command of the Python package. DESTDIR goes before every path.
+# make install puts the header, both libraries, the pkg-config file, the proved programs and the manual pages below PREFIX. The
+# programs are installed as pigrozd-file and pigrozd-accept, since pigrozd is the command of the Python package. DESTDIR goes before
+# every path.
 PREFIX = /usr/local
 BINDIR = $(PREFIX)/bin
 INCLUDEDIR = $(PREFIX)/include
@@ -106,17 +116,22 @@ MANDIR = $(PREFIX)/share/man
 INSTALL = install
 SHARED = libpigrozd.so.$(VERSION)
 INSTALLED = $(INCLUDEDIR)/pigrozd.h $(LIBDIR)/libpigrozd.a $(LIBDIR)/$(SHARED) $(LIBDIR)/$(SONAME) $(LIBDIR)/libpigrozd.so \
-    $(PKGCONFIGDIR)/pigrozd.pc $(BINDIR)/pigrozd-file $(MANDIR)/man1/pigrozd-file.1 $(MANDIR)/man3/pigrozd_join.3
+    $(PKGCONFIGDIR)/pigrozd.pc $(BINDIR)/pigrozd-file $(BINDIR)/pigrozd-accept $(MANDIR)/man1/pigrozd-file.1 \
+    $(MANDIR)/man1/pigrozd-accept.1 $(MANDIR)/man3/pigrozd_join.3 $(MANDIR)/man3/pigrozd_slow_join.3
 
 # a path of pkg-config's file, as one below ${prefix} where it is
 below = $(patsubst $(PREFIX)/%,$${prefix}/%,$(1))
 
-# (behind the library, so that rt runs once at a time under make -j)
+# (behind the library, and one behind the other, so that rt runs once at a time under make -j)
 target/bin/pigrozd: crates.txt $(SOURCES) | $(LIB)/libpigrozd.a
 	rt check pigrozd
 	touch $@
 
-install: lib target/bin/pigrozd
+target/bin/accept: crates.txt $(SOURCES) | $(LIB)/libpigrozd.a target/bin/pigrozd
+	rt check accept
+	touch $@
+
+install: lib target/bin/pigrozd target/bin/accept
 	$(INSTALL) -d $(sort $(addprefix $(DESTDIR),$(dir $(INSTALLED))))
 	$(INSTALL) -m 644 include/pigrozd.h $(DESTDIR)$(INCLUDEDIR)/pigrozd.h
 	$(INSTALL) -m 644 $(LIB)/libpigrozd.a $(DESTDIR)$(LIBDIR)/libpigrozd.a
@@ -127,8 +142,9 @@ install: lib target/bin/pigrozd
 	    'Description: Joins small tables by a plan; proved' 'Version: $(VERSION)' \
 	    'Cflags: -I$${includedir}' 'Libs: -L$${libdir} -lpigrozd' > $(DESTDIR)$(PKGCONFIGDIR)/pigrozd.pc
 	$(INSTALL) -m 755 target/bin/pigrozd $(DESTDIR)$(BINDIR)/pigrozd-file
-	$(INSTALL) -m 644 man/pigrozd-file.1 $(DESTDIR)$(MANDIR)/man1/pigrozd-file.1
-	$(INSTALL) -m 644 man/pigrozd_join.3 $(DESTDIR)$(MANDIR)/man3/pigrozd_join.3
+	$(INSTALL) -m 755 target/bin/accept $(DESTDIR)$(BINDIR)/pigrozd-accept
+	$(INSTALL) -m 644 man/pigrozd-file.1 man/pigrozd-accept.1 $(DESTDIR)$(MANDIR)/man1
+	$(INSTALL) -m 644 man/pigrozd_join.3 man/pigrozd_slow_join.3 $(DESTDIR)$(MANDIR)/man3
 
 uninstall:
 	rm -f $(addprefix $(DESTDIR),$(INSTALLED))
@@ -145,12 +161,12 @@ help:
 	    'make test              rt ci: proves everything from nothing and tries the must-fail edits; 10 to 15 minutes' \
 	    'make lib               target/lib/libpigrozd.a and libpigrozd.so; 2 to 4 minutes the first time, 20 seconds after make run' \
 	    'make install [PREFIX=/usr/local] [DESTDIR=]' \
-	    '                       header, libraries, pkg-config file, program and manual pages; a second after make lib and make run' \
+	    '                       header, libraries, pkg-config file, programs and manual pages; seconds after make lib and make run' \
 	    'make uninstall         removes what make install put there; the same PREFIX and DESTDIR' \
-	    'make check-users       check-c, check-python and check-commands; half a minute after make lib and make run' \
-	    'make check-c           the header, the C examples and an installation; seconds after make lib' \
-	    'make check-python      the Python package over the shared library; seconds after make lib' \
-	    'make check-commands    the commands of the Python package; 15 seconds after make lib' \
+	    'make check-users       check-c, check-python and check-commands; 1 to 2 minutes after make lib and make run' \
+	    'make check-c           the header, the C examples, the programs and an installation; seconds after make lib and make run' \
+	    'make check-python      the Python package over the shared library; a minute after make lib' \
+	    'make check-commands    the commands of the Python package; 20 seconds after make lib' \
 	    'make check-edits       why each must-fail edit was refused in the last rt ci; a second' \
 	    'make bench             measures the join beside other joins; 2 minutes' \
 	    'make check-bench       only whether these joins agree; 15 seconds after make lib' \

@@ -1,5 +1,6 @@
 /* Pigrozd: joins the tables of a file by its plan, or by one that it finds. For x86-64 Linux; numbers in a file are
- * little-endian.
+ * little-endian. pigrozd_join is the join. pigrozd_slow_join, for acceptance days, goes through every choice of rows and gives
+ * the same.
  *
  * What the caller owes:
  * - No pointer is NULL, also where the length beside it is 0.
@@ -7,12 +8,12 @@
  *   aligned to 4 bytes.
  * - file_bytes is at most PIGROZD_MOST_BYTES, scratch_words and output_words are at most PIGROZD_MOST_WORDS: no buffer has
  *   2^63 bytes or more. (No memory of such a size can be had on x86-64; a length that was worked out wrong can be one.)
- * - The three do not overlap, and nothing else writes to them during the call.
- * - 64 KB of stack are free (measured: 27 KB at most, for a plan of 255 bytes FF; 14 KB for 16 tables).
- * Nothing is asked of what they hold. The function calls nothing but memcpy and memset and keeps nothing, so that calls with
+ * - The buffers of a call do not overlap, and nothing else writes to them during the call.
+ * - 64 KB of stack are free (measured: 30 KB at most, by the slow engine for a plan of 255 bytes FF).
+ * Nothing is asked of what they hold. Both functions call nothing but memcpy and memset and keep nothing, so that calls with
  * buffers of their own may run side by side.
  *
- * What it does is proved (crates/capi/specs/Calls.antt). docs/SPECIFICATION.md says it in words, docs/answers/README.md says
+ * What they do is proved (crates/capi/specs/Calls.antt, crates/capi_slow/specs/Calls.antt). docs/SPECIFICATION.md says it in words, docs/answers/README.md says
  * what each answer means and what to look at, docs/TRUST.md what is assumed.
  */
 #ifndef PIGROZD_H
@@ -41,6 +42,9 @@
 /* The most words of output that are used. A longer output is taken, and its rest is left as it was. */
 #define PIGROZD_MOST_OUTPUT_WORDS 1048576
 
+/* The most choices that pigrozd_slow_join goes through. There are as many as the product of all row counts. */
+#define PIGROZD_MOST_CHOICES 1048576
+
 /* As the detail of PIGROZD_OUTPUT_SHORT: so many results or more. */
 #define PIGROZD_HOLD_LIMIT 4294967295u
 
@@ -56,7 +60,8 @@
 extern "C" {
 #endif
 
-/* The answers, by number. 13 is no answer of the library: the program gives it where its standard input is too long. */
+/* The answers, by number. 10 and 12 are pigrozd_join's alone, and 15 is pigrozd_slow_join's alone. 13 is no answer of the
+ * library: the programs give it where their standard input is too long. */
 enum pigrozd_number {
     PIGROZD_JOINED = 0,
     PIGROZD_CUT_OFF = 1,           /* the file is cut off; detail: offset of the record that is cut */
@@ -71,14 +76,15 @@ enum pigrozd_number {
     PIGROZD_SCRATCH_SHORT = 10,    /* the scratch is too short; detail: words needed */
     PIGROZD_OUTPUT_SHORT = 11,     /* more results than the output fits; detail: number of results, or PIGROZD_HOLD_LIMIT */
     PIGROZD_COUNTS_DIFFER = 12,    /* two counts of the results differ; never given, which is proved; detail: 0 */
-    PIGROZD_NO_PLAN_FOUND = 14     /* no plan can be found for these tables; detail: lowest number of a table that remains */
+    PIGROZD_NO_PLAN_FOUND = 14,    /* no plan can be found for these tables; detail: lowest number of a table that remains */
+    PIGROZD_TOO_MANY_CHOICES = 15  /* more choices than the slow engine goes through; detail: 0 */
 };
 
 /* The name that 9 had before plans were mended; a plan that is not well-behaved is no longer refused for that. */
 #define PIGROZD_NOT_WELL_BEHAVED PIGROZD_NO_HOLDER
 
-/* number: one of the above. After PIGROZD_JOINED detail is 0, and rows and the four counts follow. Any other number is a
- * refusal: detail says where or how much, and the rest is 0. */
+/* number: one of the above, but never 15. After PIGROZD_JOINED detail is 0, and rows and the four counts follow. Any other
+ * number is a refusal: detail says where or how much, and the rest is 0. */
 typedef struct pigrozd_answer {
     uint64_t number;
     uint64_t detail;
@@ -109,6 +115,28 @@ typedef struct pigrozd_answer {
 pigrozd_answer pigrozd_join(const uint8_t *file, size_t file_bytes,
                             uint32_t *scratch, size_t scratch_words,
                             uint32_t *output, size_t output_words);
+
+/* number: one of the above, but never 10 or 12. After PIGROZD_JOINED detail is 0 and rows follows. Any other number is a refusal:
+ * detail says where or how much, and rows is 0. */
+typedef struct pigrozd_slow_answer {
+    uint64_t number;
+    uint64_t detail;
+    uint64_t rows;
+} pigrozd_slow_answer;
+
+/* The slow engine, for acceptance days. A choice takes one row of each table. It goes through every choice, in the order of the
+ * plan that pigrozd_join follows, and keeps those that agree. It needs no scratch and reports no counts.
+ *
+ * Given the same file and output, number, detail, rows and output are those of pigrozd_join wherever neither of the two gives
+ * PIGROZD_SCRATCH_SHORT or PIGROZD_TOO_MANY_CHOICES. So what stands above of plans, of output and of PIGROZD_OUTPUT_SHORT holds
+ * here too.
+ *
+ * PIGROZD_TOO_MANY_CHOICES says that there are more than PIGROZD_MOST_CHOICES choices; just so many are gone through. A table of
+ * no rows leaves no choice, however many rows the others have. It stands in the place of PIGROZD_SCRATCH_SHORT: behind
+ * PIGROZD_NO_HOLDER and PIGROZD_NO_PLAN_FOUND, before PIGROZD_OUTPUT_SHORT. No output changes it, and pigrozd_join takes such a
+ * file. */
+pigrozd_slow_answer pigrozd_slow_join(const uint8_t *file, size_t file_bytes,
+                                      uint32_t *output, size_t output_words);
 
 #ifdef __cplusplus
 }

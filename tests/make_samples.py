@@ -9,7 +9,8 @@ writes, from the top of the repository (standard library of Python only):
   (little-endian), and the rest is the file to join: `tail -c +9 crates/samples/data/NAME` is that file alone.
 - crates/samples/args: the names, in the order in which the test program goes through them.
 - crates/samples/stdout: for each sample its name, the answer as the program prints it, and what scratch and output hold
-  after the call. The answers come from reference.py, which tries every choice and shares no code with the library.
+  after the call; then number, detail and rows of the slow engine's answer, what an output of its own holds after it, and whether
+  that is what the join's holds. The answers come from reference.py, which tries every choice and shares no code with the library.
 - crates/pigrozd/stdin and crates/pigrozd/stdout: document 01's sample file and its print.
 
 To add a sample, add a line to a function below and run this again.
@@ -640,6 +641,74 @@ def found_tree_samples():
                 break
 
 
+# ---- the slow engine
+def sparse(attributes, rows, first=7, step=400):
+    """A table of many rows. Row y has in its first attribute y if y is 7, 407, 807 and so on, and else a value of its own."""
+    return table(attributes, *[(y if y % step == first else 10000 * (attributes[-1] + 1) + y, *[y] * (len(attributes) - 1))
+                               for y in range(rows)])
+
+
+def pair(left, right):
+    """Two tables with so many rows each, of which few match."""
+    return [sparse((0,), left), sparse((0, 1), right)]
+
+
+def slow(name, number, tables, code, scratch=60000, output=300):
+    """A sample, and the number that the slow engine gives."""
+    data = file(tables, *code)
+    assert reference.slow_outcome(data, output)[0] == number, name
+    sample("slow_" + name, data, scratch, output)
+
+
+def slow_limit_samples():
+    """Products of row counts at 1,048,576, below it and past it."""
+    slow("two_tables_of_1024_rows", 0, pair(1024, 1024), (FF, 0, 1))
+    slow("two_tables_of_1024_rows_no_scratch", 0, pair(1024, 1024), (FF, 1, 0), 0, 6)
+    slow("one_choice_less_output_short", 11, pair(1023, 1025), (), output=5)
+    # no tables of up to 4,096 rows have 1 or 2 choices more
+    slow("three_choices_more", 15, pair(919, 1141), (FF, 0, 1))
+    slow("three_choices_more_no_scratch", 15, pair(919, 1141), (FF, 0, 1), 0)
+    # the rows come in the order of table 2, which is the root of the mended plan
+    three = [table((0, 1), *[(y, 63 - y) for y in range(64)]), table((1, 2), *[(W if y == 18 else 2 * y, y) for y in range(128)]),
+             table((2, 3), *[(9 * y % 1000, y) for y in range(128)])]
+    slow("three_tables_at_the_limit", 0, three, (FF, 0, FF, 2, 1))
+    three = [table(held, *[(y, y * times) for y in range(rows)]) for held, times, rows in (((0, 1), 50, 7), ((1, 2), 5, 163), ((2, 3), 1, 919))]
+    slow("three_tables_of_7_163_919_rows", 15, three, (FF, 0, FF, 1, 2))
+    sixteen = linked(*[(32 if t == 9 else 2, tuple(a for a in (t - 1, t) if 0 <= a < 15)) for t in range(16)])
+    slow("16_tables_at_the_limit", 0, sixteen, left_deep(16), output=2000)
+    slow("16_tables_past_the_limit_no_scratch", 15, [*sixteen[:15], table((14,), (0,), (1,), (1,))], left_deep(16), 0)
+
+
+def slow_product_samples():
+    """Products that are 0, or that no word of 32 or of 64 bits holds."""
+    many, none = table((0,), *[(y,) for y in range(4096)]), table((0,))
+    slow("no_rows_behind_two_tables_of_4096", 0, [many, many, none], (FF, FF, 2, 0, 1), 65536, 0)
+    slow("no_rows_before_two_tables_of_4096", 0, [none, many, many], (FF, FF, 0, 1, 2), 65536, 0)
+    slow("no_rows_between_two_tables_of_4096", 0, [many, none, many], (FF, FF, 1, 0, 2), 65536)
+    slow("no_rows_and_no_scratch", 0, [many, many, none], (FF, FF, 2, 0, 1), 0, 0)
+    fives = {rows: table((0,), *[(5,)] * rows) for rows in (16, 17, 241, 1024)}
+    slow("product_of_2_to_the_64", 15, [fives[16]] * 16, left_deep(16))
+    # 1,048,576 and 2 to the 32
+    slow("product_past_32_bits", 15, [fives[rows] for rows in (1024, 1024, 17, 241)], left_deep(4))
+    apart = [table((a,), *[(y,) for y in range(1024)]) for a in range(2)]
+    slow("results_1048576", 11, apart, (FF, 0, 1))
+    slow("results_1049600", 15, [*apart[:1], table((1,), *[(y,) for y in range(1025)])], (FF, 0, 1))
+
+
+def slow_refusal_samples():
+    """Too many choices and another fault: what comes before 10 comes before 15."""
+    past = pair(919, 1141)
+    whole = file(past, FF, 0, 1)
+    for name, data in (("behind_plan", whole + b"\0"), ("cut", whole[:-1]), ("mark_other", whole[:-6] + b"PM" + whole[-4:])):
+        assert reference.slow_outcome(data, 0)[0] in (1, 2, 6), name
+        sample("slow_past_the_limit_" + name, data, 0, 0)
+    slow("past_the_limit_plan_ends_early", 7, past, (FF, 0), 0, 0)
+    slow("past_the_limit_table_named_twice", 8, past, (FF, 0, 0), 0, 0)
+    slow("past_the_limit_no_holder", 9, [table((0, 1), (7, 8)), sparse((0,), 919), sparse((1,), 1141)], (FF, 0, FF, 1, 2), 0, 0)
+    ring = [table((0, 2), (7, 8)), sparse((0, 1), 919), sparse((1, 2), 1141)]
+    slow("past_the_limit_no_plan_found", 14, ring, (), 0, 0)
+
+
 # ---- the files
 def write(path, data):
     with open(os.path.join(TOP, path), "wb") as f:
@@ -649,7 +718,19 @@ def write(path, data):
 def after(answer, scratch):
     """What the test program says of the buffers after a call."""
     state = "empty" if scratch == 0 else "zero" if answer[0] in (0, 11, 12) else "unchanged"
-    return "scratch %s, output %d words written, rest unchanged\n" % (state, sum(map(len, answer[2])))
+    return "scratch %s, %s\n" % (state, after_output(answer[2]))
+
+
+def after_output(rows):
+    """What the test program says of an output with these rows."""
+    return "output %d words written, rest unchanged" % sum(map(len, rows))
+
+
+def slow_line(data, output, joined):
+    """What the test program says of the slow engine's answer; `joined` are the rows that the join gives."""
+    number, detail, rows = reference.slow_outcome(data, output)
+    told = "as the join's" if rows == joined else "not as the join's"
+    return "slow %d %d %d, %s, %s\n" % (number, detail, len(rows), after_output(rows), told)
 
 
 def main():
@@ -657,7 +738,8 @@ def main():
         bench_samples, cut_samples, record_samples, plan_samples, buffer_samples, product_samples, key_samples,
         unrecorded_samples, row_samples, many_table_samples, tree_samples, mended_samples, mended_choice_samples,
         no_holder_samples, sixteen_samples, mended_tree_samples, found_samples, found_choice_samples,
-        not_found_samples, sixteen_found_samples, found_tree_samples,
+        not_found_samples, sixteen_found_samples, found_tree_samples, slow_limit_samples, slow_product_samples,
+        slow_refusal_samples,
     ):
         make()
     folder = os.path.join(TOP, "crates/samples/data")
@@ -669,7 +751,7 @@ def main():
         assert scratch <= 65536 and output <= 65536 and len(data) <= 65536, name
         write("crates/samples/data/" + name, word(scratch) + word(output) + data)
         answer = reference.outcome(data, scratch, output)
-        text += name + "\n" + reference.lines(answer) + after(answer, scratch)
+        text += name + "\n" + reference.lines(answer) + after(answer, scratch) + slow_line(data, output, answer[2])
     write("crates/samples/args", "".join(name + "\n" for name, *_ in samples).encode())
     write("crates/samples/stdout", text.encode())
     write("crates/pigrozd/stdin", P1)

@@ -3,6 +3,7 @@ import contextlib
 import io
 import os
 import random
+import re
 import shutil
 import subprocess
 import sys
@@ -41,6 +42,8 @@ def load(*parts):
 MEMORY = "/dev/shm"  # files made there are written quickly
 PROGRAM = path("target", "bin", "pigrozd")
 needs_program = unittest.skipUnless(os.path.exists(PROGRAM), "the program is not built (make run builds it)")
+ACCEPT = path("target", "bin", "accept")
+needs_accept = unittest.skipUnless(os.path.exists(ACCEPT), "accept is not built (make target/bin/accept builds it)")
 
 SAMPLE = load("crates", "pigrozd", "stdin")
 SAMPLE_PLAN = "(frames (exposures readings))"
@@ -175,6 +178,31 @@ class Folder(unittest.TestCase):
         self.assertNotIn(b"Traceback", done.stderr)
         self.assertNotIn(b"Exception ignored", done.stderr)
         return done
+
+    def run_document(self, name):
+        """Runs the commands of a document of docs/, here; they must print what stands below them. How many blocks of
+        them there are. The programs' part is the reference's."""
+        for folder in ("examples", "tests", "bin", "python"):
+            shutil.copytree(path(folder), self.at(folder), ignore=shutil.ignore_patterns("__pycache__"))
+        environment = dict(os.environ, PIGROZD_LIBRARY=path("target", "lib", "libpigrozd.so"))
+        blocks = re.findall(r"```\n(\$ .*?)```", load("docs", name).decode(), re.S)
+        for block in blocks:
+            for step in re.split(r"^\$ ", block.replace("\\\n", ""), flags=re.M)[1:]:
+                command, _, expect = step.partition("\n")
+                command = command.replace("target/bin/pigrozd", "python3 tests/reference.py")
+                command = command.replace("target/bin/accept", "python3 tests/reference.py accept")
+                command = command.replace("python3", sys.executable)
+                command = command.replace("bin/pigrozd", sys.executable + " bin/pigrozd")
+                done = subprocess.run(
+                    command,
+                    shell=True,
+                    cwd=self.folder,
+                    stdout=subprocess.PIPE,
+                    stderr=subprocess.STDOUT,
+                    env=environment,
+                )
+                self.assertEqual(done.stdout.decode().strip("\n"), expect.strip("\n"), command)
+        return len(blocks)
 
     def digest_line(self, name):
         """The first line of the names of a file."""

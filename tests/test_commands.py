@@ -8,7 +8,6 @@ import re
 import shlex
 import shutil
 import subprocess
-import sys
 import unittest
 
 from support import (
@@ -18,7 +17,6 @@ from support import (
     SAMPLE,
     SAMPLE_DRAWN,
     SAMPLE_PLAN,
-    TOP,
     Folder,
     damaged,
     expected,
@@ -142,7 +140,7 @@ class Dumping(Folder):
         )
         out, _ = self.command("dump", "--answer", "6", "126", bad)
         self.assertIn("     126  end of the file\n          ^^ answer 6", out)
-        self.fails("there is no such answer", "dump", bad, "--answer", "15", "0")
+        self.fails("there is no such answer", "dump", bad, "--answer", "99", "0")
         self.fails("none: No such file", "dump", self.at("none"))
         self.fails("Is a directory", "dump", self.folder)
         self.write("bad.names", "frame\n")
@@ -604,7 +602,7 @@ class RowsOfPrints(Folder):
     def test_other_text(self):
         for pattern, text in {
             "line 1: expected rows N": "",
-            "line 1: expected rows N or refused": "refused 15 0\n",
+            "line 1: expected rows N or refused": "refused 99 0\n",
             "line 1: expected rows N or refused ?": "refused 0 0\n",
             "line 3: expected a row, found 'steps": "rows 2\n1 2 3 4\nsteps 1 1 1 1\n",
             "3 rows and then steps expected behind line 1, found 1 line": "rows 3\n1 2 3 4\n",
@@ -760,28 +758,7 @@ class Usage(Folder):
 class Documents(Folder):
     def test_commands_in_tools(self):
         """The commands of docs/TOOLS.md print what stands below them."""
-        for folder in ("examples", "tests", "bin", "python"):
-            shutil.copytree(path(folder), self.at(folder), ignore=shutil.ignore_patterns("__pycache__"))
-        environment = dict(os.environ, PIGROZD_LIBRARY=path("target", "lib", "libpigrozd.so"))
-        text = load("docs", "TOOLS.md").decode()
-        blocks = re.findall(r"```\n(\$ .*?)```", text, re.S)
-        self.assertGreaterEqual(len(blocks), 5)
-        for block in blocks:
-            for step in re.split(r"^\$ ", block.replace("\\\n", ""), flags=re.M)[1:]:
-                command, _, expect = step.partition("\n")
-                command = command.replace("target/bin/pigrozd", "python3 tests/reference.py")
-                command = command.replace("python3", sys.executable).replace(
-                    "bin/pigrozd", sys.executable + " bin/pigrozd"
-                )
-                done = subprocess.run(
-                    command,
-                    shell=True,
-                    cwd=self.folder,
-                    stdout=subprocess.PIPE,
-                    stderr=subprocess.STDOUT,
-                    env=environment,
-                )
-                self.assertEqual(done.stdout.decode().strip("\n"), expect.strip("\n"), command)
+        self.assertGreaterEqual(self.run_document("TOOLS.md"), 5)
 
 
 if __name__ == "__main__":

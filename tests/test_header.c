@@ -1,6 +1,7 @@
 /* Tests include/pigrozd.h as C99 and as C++ against the library: that each name of an answer is the number that is given under
  * its condition, that the limits are those at which answers change, that a plan is mended, or found where there is none, that a
- * value which was not recorded matches nothing, and that the version is said alike everywhere.
+ * value which was not recorded matches nothing, that the slow engine gives what the join gives, and that the version is said
+ * alike everywhere.
  * make check-c runs it. It prints nothing and ends with 0, or prints each test that failed and ends with 1. */
 #include "pigrozd.h"
 
@@ -80,10 +81,27 @@ static void put_tables(unsigned tables, uint32_t rows)
 /* ---- calls */
 static uint32_t scratch[PIGROZD_MOST_SCRATCH_WORDS];
 static uint32_t output[PIGROZD_MOST_OUTPUT_WORDS + 1];
+static uint32_t slow_output[PIGROZD_MOST_OUTPUT_WORDS + 1];
 
+/* The join; and beside it the slow engine, over an output of its own that holds the same before. Where neither says 10 or 15,
+ * both answers and both outputs are the same. */
 static pigrozd_answer lent(size_t scratch_words, size_t output_words)
 {
-    return pigrozd_join(file, length, scratch, scratch_words, output, output_words);
+    pigrozd_slow_answer slow;
+    pigrozd_answer given;
+
+    memcpy(slow_output, output, sizeof output);
+    given = pigrozd_join(file, length, scratch, scratch_words, output, output_words);
+    slow = pigrozd_slow_join(file, length, slow_output, output_words);
+    if (given.number != PIGROZD_SCRATCH_SHORT && slow.number != PIGROZD_TOO_MANY_CHOICES) {
+        EXPECT(slow.number, given.number);
+        EXPECT(slow.detail, given.detail);
+        EXPECT(slow.rows, given.rows);
+        EXPECT(memcmp(slow_output, output, sizeof output), 0);
+    }
+    EXPECT(slow.number == PIGROZD_SCRATCH_SHORT || slow.number == PIGROZD_COUNTS_DIFFER, 0);
+    EXPECT(given.number == PIGROZD_TOO_MANY_CHOICES, 0);
+    return given;
 }
 
 static pigrozd_answer answer(void)
@@ -401,12 +419,96 @@ static void test_not_recorded(void)
     EXPECT(output[0], PIGROZD_NOT_RECORDED);
 }
 
+/* tables of one attribute each, with these row counts; together they have every choice as a result */
+static void put_apart(const uint32_t *rows, unsigned tables, const char *code, unsigned bytes)
+{
+    unsigned i;
+    length = 0;
+    for (i = 0; i < tables; i++) {
+        put_table(1u << i, rows[i]);
+        put_column(rows[i]);
+    }
+    put_plan(code, bytes);
+}
+
+/* what the slow engine says, over an output that must be as it was where it refuses */
+static pigrozd_slow_answer slow_answer(size_t output_words)
+{
+    pigrozd_slow_answer given;
+    memset(slow_output, 0x5a, sizeof slow_output);
+    given = pigrozd_slow_join(file, length, slow_output, output_words);
+    if (given.number != PIGROZD_JOINED) {
+        EXPECT(given.rows, 0);
+        EXPECT(is_filled(slow_output, PIGROZD_MOST_OUTPUT_WORDS + 1, 0x5a), 1);
+    }
+    return given;
+}
+
+#define EXPECT_SLOW(output_words, wanted_number, wanted_detail, wanted_rows) \
+    do { \
+        pigrozd_slow_answer given = slow_answer(output_words); \
+        EXPECT(given.number, wanted_number); \
+        EXPECT(given.detail, wanted_detail); \
+        EXPECT(given.rows, wanted_rows); \
+    } while (0)
+
+/* the slow engine alone: the most choices, and no scratch */
+static void test_slow(void)
+{
+    static const uint32_t most[] = {1024, 1024}, past[] = {1025, 1024}, none[] = {4096, 4096, 0}, huge[] = {4096, 4096, 4096};
+    unsigned i;
+
+    EXPECT(PIGROZD_TOO_MANY_CHOICES, 15);
+    EXPECT(PIGROZD_MOST_CHOICES, 1024 * 1024);
+
+    put_apart(most, 2, "\377\0\1", 3);
+    EXPECT_SLOW(PIGROZD_MOST_OUTPUT_WORDS, PIGROZD_OUTPUT_SHORT, PIGROZD_MOST_CHOICES, 0);
+    EXPECT_SLOW(0, PIGROZD_OUTPUT_SHORT, PIGROZD_MOST_CHOICES, 0);
+    put_apart(past, 2, "\377\0\1", 3);
+    EXPECT_SLOW(PIGROZD_MOST_OUTPUT_WORDS, PIGROZD_TOO_MANY_CHOICES, 0, 0);
+    EXPECT_SLOW(0, PIGROZD_TOO_MANY_CHOICES, 0, 0);
+    put_apart(none, 3, "\377\0\377\1\2", 5);
+    EXPECT_SLOW(0, PIGROZD_JOINED, 0, 0);
+    put_apart(huge, 3, "\377\0\377\1\2", 5);
+    EXPECT_SLOW(PIGROZD_MOST_OUTPUT_WORDS, PIGROZD_TOO_MANY_CHOICES, 0, 0);
+    put_byte(0);
+    EXPECT_SLOW(PIGROZD_MOST_OUTPUT_WORDS, PIGROZD_BEHIND_PLAN, length - 1, 0);
+    put_apart(huge, 3, "\377\0\1", 3);
+    EXPECT_SLOW(PIGROZD_MOST_OUTPUT_WORDS, PIGROZD_NOT_NAMED_ONCE, 3, 0);
+
+    /* the most choices and the most output: each of 1,024 rows with each of 1,024, all of one value */
+    length = 0;
+    for (i = 0; i < 2; i++) {
+        unsigned y;
+        put_table(1, 1024);
+        for (y = 0; y < 1024; y++)
+            put_word(7);
+    }
+    put_plan("\377\0\1", 3);
+    EXPECT_SLOW(PIGROZD_MOST_OUTPUT_WORDS - 1, PIGROZD_OUTPUT_SHORT, PIGROZD_MOST_CHOICES, 0);
+    EXPECT_SLOW(PIGROZD_MOST_OUTPUT_WORDS + 1, PIGROZD_JOINED, 0, PIGROZD_MOST_CHOICES);
+    EXPECT(slow_output[0], 7);
+    EXPECT(slow_output[PIGROZD_MOST_OUTPUT_WORDS - 1], 7);
+    EXPECT(slow_output[PIGROZD_MOST_OUTPUT_WORDS], 0x5a5a5a5au);
+
+    /* where the join needs 62 words of scratch */
+    put_chain();
+    put_plan("\377\0\377\2\1", 5);
+    EXPECT(lent(61, 8).number, PIGROZD_SCRATCH_SHORT);
+    EXPECT_SLOW(8, PIGROZD_JOINED, 0, 2);
+    EXPECT(slow_output[2], 8);
+    EXPECT(slow_output[6], 7);
+    EXPECT(slow_output[8], 0x5a5a5a5au);
+    EXPECT_SLOW(7, PIGROZD_OUTPUT_SHORT, 2, 0);
+}
+
 static void test_lengths(void)
 {
     EXPECT(PIGROZD_MOST_BYTES, (uint64_t)-1 / 2);
     EXPECT(PIGROZD_MOST_WORDS, PIGROZD_MOST_BYTES / 4);
     EXPECT(sizeof(size_t), 8);
     EXPECT(sizeof(pigrozd_answer), 56);
+    EXPECT(sizeof(pigrozd_slow_answer), 24);
 }
 
 static void test_version(void)
@@ -424,6 +526,7 @@ int main(void)
     test_found();
     test_not_found();
     test_not_recorded();
+    test_slow();
     test_lengths();
     test_version();
     return failures == 0 ? 0 : 1;

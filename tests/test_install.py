@@ -98,10 +98,11 @@ class Source(unittest.TestCase):
 
     @unittest.skipUnless(shutil.which("mypy"), "mypy is not there")
     def test_types_agree(self):
-        """mypy finds no fault in the package, and finds those of a program that uses it wrongly: what is no file, and
-        a sum of values that may be None."""
+        """mypy finds no fault in the package, and finds those of a program that uses it wrongly: what is no file, a
+        sum of values that may be None, an engine that is not there."""
         program = "import pigrozd\nx = pigrozd.join([{0: [1]}], 0).columns[0]\npigrozd.join_file(5)\nsum(x)\n"
-        for arguments, faults in (([path("python", "pigrozd")], 0), (["-c", program], 2)):
+        program += 'pigrozd.join_file("a", engine="slow")\npigrozd.join_file("a", engine="fast")\n'
+        for arguments, faults in (([path("python", "pigrozd")], 0), (["-c", program], 3)):
             command = ["mypy", "--strict", "--python-version", "3.9", "--cache-dir", os.devnull, *arguments]
             environment = dict(os.environ, MYPYPATH=path("python"))
             done = subprocess.run(command, stdout=subprocess.PIPE, stderr=subprocess.STDOUT, env=environment)

@@ -1,6 +1,6 @@
 #!/bin/sh
 # Tests make install: into a temporary folder, then the example compiled with what pkg-config says, run and compared; the
-# program; the manual pages; and that make uninstall leaves no file. make check-c runs it from the top of the repository.
+# programs; the manual pages; and that make uninstall leaves no file. make check-c runs it from the top of the repository.
 set -u
 make=${MAKE:-make}
 cc=${CC:-cc}
@@ -19,6 +19,7 @@ major=${version%%.*}
 $make -s install PREFIX="$room/prefix" || exit 1
 (cd "$room/prefix" && find . ! -type d | sort) >"$room/found"
 cat >"$room/wanted" <<EOF
+./bin/pigrozd-accept
 ./bin/pigrozd-file
 ./include/pigrozd.h
 ./lib/libpigrozd.a
@@ -26,8 +27,10 @@ cat >"$room/wanted" <<EOF
 ./lib/libpigrozd.so.$major
 ./lib/libpigrozd.so.$version
 ./lib/pkgconfig/pigrozd.pc
+./share/man/man1/pigrozd-accept.1
 ./share/man/man1/pigrozd-file.1
 ./share/man/man3/pigrozd_join.3
+./share/man/man3/pigrozd_slow_join.3
 EOF
 diff "$room/wanted" "$room/found" || fail 'other files are installed'
 
@@ -51,9 +54,10 @@ diff examples/c/expected "$room/printed" || fail 'the static example prints some
 
 "$room/prefix/bin/pigrozd-file" <crates/pigrozd/stdin >"$room/printed" || fail 'the program fails'
 diff crates/pigrozd/stdout "$room/printed" || fail 'the program prints something else'
+[ "$("$room/prefix/bin/pigrozd-accept" <crates/pigrozd/stdin)" = 'same 0 0 4' ] || fail 'the engines do not agree'
 
 # the manual pages
-for page in man1/pigrozd-file.1 man3/pigrozd_join.3; do
+for page in man1/pigrozd-file.1 man1/pigrozd-accept.1 man3/pigrozd_join.3 man3/pigrozd_slow_join.3; do
     if command -v mandoc >/dev/null; then
         mandoc -T lint -W warning "$room/prefix/share/man/$page" || fail "mandoc warns of $page"
     elif command -v groff >/dev/null; then

@@ -25,7 +25,7 @@ def words(*values):
 
 class Calls(unittest.TestCase):
     def printed(self, file, scratch_words, output_words):
-        """What the test program crates/samples prints of one call."""
+        """What the test program crates/samples prints of one call, and of one of the slow engine."""
         scratch, output = words(BEFORE) * scratch_words, words(BEFORE) * output_words
         answer = pigrozd.call(file, scratch, output)
         width = len(plans.width(fileformat.read(bytes(file)).tables))
@@ -40,9 +40,18 @@ class Calls(unittest.TestCase):
         else:
             self.assertEqual(scratch, words(BEFORE) * scratch_words)
             text += "scratch unchanged, "
-        end = width * answer.rows
-        self.assertEqual(output[end:], words(BEFORE) * (output_words - end))
-        return text + "output %d words written, rest unchanged\n" % end
+        text += self.written(output, width * answer.rows) + "\n"
+        slow = words(BEFORE) * output_words
+        given = pigrozd.call_slow(file, slow)
+        if answer.number != 10 and given.number != 15:
+            self.assertEqual((given, slow), (answer[:3], output))
+        text += "slow %d %d %d, " % given + self.written(slow, width * given.rows)
+        return text + (", as the join's\n" if slow == output else ", not as the join's\n")
+
+    def written(self, output, end):
+        """What the test program says of an output that has this many words of results."""
+        self.assertEqual(output[end:], words(BEFORE) * (len(output) - end))
+        return "output %d words written, rest unchanged" % end
 
     def test_samples(self):
         """The samples of the gate, P1 to P12 among them, called through the shared library."""
@@ -138,11 +147,14 @@ def drawn_tables(chance, missing):
 
 class Loading(unittest.TestCase):
     def test_header(self):
-        """The seven numbers in the header's order."""
+        """The numbers of each answer in the header's order."""
         header = load("include", "pigrozd.h").decode()
-        fields = re.findall(r"^    uint64_t (\w+);", header, re.M)
-        self.assertEqual(tuple(fields), pigrozd.Answer._fields)
+        structs = {name: body for name, body in re.findall(r"^typedef struct (\w+) \{\n(.*?)^\}", header, re.M | re.S)}
+        fields = {name: tuple(re.findall(r"^    uint64_t (\w+);", body, re.M)) for name, body in structs.items()}
+        wanted = {"pigrozd_answer": pigrozd.Answer._fields, "pigrozd_slow_answer": pigrozd.SlowAnswer._fields}
+        self.assertEqual(fields, wanted)
         self.assertEqual(ctypes.sizeof(library.AnswerStruct), 56)
+        self.assertEqual(ctypes.sizeof(library.SlowAnswerStruct), 24)
 
     def told(self, named):
         """What is told where PIGROZD_LIBRARY names this file."""

@@ -12,14 +12,17 @@ same() { # WHAT WANTED FOUND
     failures=$((failures + 1))
 }
 
-# name and number of each answer
+# name and number of each answer; 15 is the slow engine's alone, which never gives 10 and 12
 sed -n 's/^    \(PIGROZD_[A-Z_]*\) = \([0-9]*\).*/\1 \2/p' include/pigrozd.h >"$room/answers"
-sed -n 's/^\(PIGROZD_[A-Z_]*\)	\([0-9]*\)	.*/\1 \2/p' man/pigrozd_join.3 >"$room/names"
-count=$(wc -l <"$room/answers")
-head -n "$count" "$room/names" >"$room/manual"
 sed -n 's/^| \[\([0-9]*\)\].*| `\(PIGROZD_[A-Z_]*\)` |$/\2 \1/p' docs/answers/README.md >"$room/table"
-same 'the manual page has other answers' answers manual
 same 'docs/answers has other answers' answers table
+grep -v ' 15$' "$room/answers" >"$room/join_answers"
+grep -v -e ' 10$' -e ' 12$' "$room/answers" >"$room/slow_join_answers"
+for page in join slow_join; do
+    sed -n 's/^\(PIGROZD_[A-Z_]*\)	\([0-9]*\)	.*/\1 \2/p' man/pigrozd_$page.3 >"$room/$page"
+    head -n "$(wc -l <"$room/${page}_answers")" "$room/$page" >"$room/manual"
+    same "pigrozd_$page.3 has other answers" ${page}_answers manual
+done
 
 # what each refusal means
 sed -n 's/^    PIGROZD_[A-Z_]* = \([1-9][0-9]*\),* *\/\* \([^;]*\);.*/\1 \2/p' include/pigrozd.h >"$room/meanings"
@@ -29,8 +32,12 @@ same 'docs/answers says other words' meanings table
 # the limits
 sed -n 's/^#define \(PIGROZD_MOST_[A-Z_]*\|PIGROZD_HOLD_LIMIT\) \([0-9]*\).*/\1 \2/p' include/pigrozd.h |
     grep -v -e PIGROZD_MOST_BYTES -e PIGROZD_MOST_WORDS >"$room/limits"
-tail -n +$((count + 1)) "$room/names" >"$room/manual"
-same 'the manual page has other limits' limits manual
+grep -v MOST_CHOICES "$room/limits" >"$room/join_limits"
+grep -v -e MOST_SCRATCH_WORDS -e HOLD_LIMIT "$room/limits" >"$room/slow_join_limits"
+for page in join slow_join; do
+    tail -n +$(($(wc -l <"$room/${page}_answers") + 1)) "$room/$page" >"$room/manual"
+    same "pigrozd_$page.3 has other limits" ${page}_limits manual
+done
 
 # the word of a value that was not recorded
 word=$(sed -n 's/^#define PIGROZD_NOT_RECORDED \([0-9]*\)u$/\1/p' include/pigrozd.h)
@@ -40,6 +47,11 @@ says() { # PAGE WORDS
 says man/pigrozd_join.3 "PIGROZD_NOT_RECORDED, $word, is a value that"
 says man/pigrozd-file.1 "^The value $word means not recorded"
 says docs/answers/00.md "the program prints $word"
+
+# the most choices, with a comma behind every third figure
+most=$(sed -n 's/^#define PIGROZD_MOST_CHOICES \([0-9]*\)\([0-9]\{3\}\)\([0-9]\{3\}\)$/\1,\2,\3/p' include/pigrozd.h)
+says docs/answers/15.md "more than $most"
+says man/pigrozd-accept.1 "^$most\\."
 
 # the version
 version=$(sed -n 's/^#define PIGROZD_VERSION "\(.*\)"$/\1/p' include/pigrozd.h)

@@ -48,6 +48,11 @@ pub fn bytes(tables: &[Table], code: &[u8]) -> Vec<u8> {
     file
 }
 
+/// How many choices of one row of each table there are.
+pub fn choices(tables: &[Table]) -> u64 {
+    tables.iter().fold(1, |n, t| n.saturating_mul(t.rows() as u64))
+}
+
 pub struct Input {
     pub tables: Vec<Table>,
     /// The plan in the file, where it has one, and the one that is followed: another one if the file's is not well-behaved.
@@ -163,6 +168,27 @@ fn chain(k: usize, n: usize, seed: u64) -> Input {
     let mut r = Random(seed);
     let tables = (0..k as u32).map(|i| table(vec![(i, r.dense(n, n)), (i + 1, r.dense(n, n))])).collect();
     Input::new(tables, right_deep(k))
+}
+
+/// A chain in which each row has one partner in the next table.
+fn one_partner(k: usize, n: usize, seed: u64) -> Input {
+    let mut r = Random(seed);
+    let tables = (0..k as u32).map(|i| table(vec![(i, r.permutation(n)), (i + 1, r.permutation(n))])).collect();
+    Input::new(tables, right_deep(k))
+}
+
+/// A chain of 2 with few rows in the first table, which have one partner each.
+fn few_before(few: usize, n: usize, seed: u64) -> Input {
+    let mut r = Random(seed);
+    let keys = r.permutation(n)[..few].to_vec();
+    let first = table(vec![(0, r.permutation(few)), (1, keys)]);
+    let second = table(vec![(1, r.permutation(n)), (2, r.permutation(n))]);
+    Input::new(vec![first, second], right_deep(2))
+}
+
+/// The same file with as much scratch as the proved programs lend for any file.
+fn longer_scratch(input: Input) -> Input {
+    Input { scratch_words: 16_384, ..input }
 }
 
 /// A table of up to 8 keys, each found once in each of its dimensions; keys are any words.
@@ -416,7 +442,7 @@ impl Case {
     /// As many files as have 4,096 rows a table together. Run in turn, they leave a machine's caches and its prediction of
     /// branches as much to forget at few rows as at many.
     pub fn files(&self) -> Vec<Input> {
-        (1..=(4096 / self.rows).min(64) as u64).map(|seed| (self.make)(seed)).collect()
+        (1..=(4096 / self.rows.max(1)).min(64) as u64).map(|seed| (self.make)(seed)).collect()
     }
 
     /// The same tables in files whose plans are the ones that are followed, where these are mended or found.
@@ -500,5 +526,20 @@ pub fn without_plan() -> Vec<Case> {
     all.push(case("equal masks of 16, no plan", 64, |seed| Input::without_plan(equal_masks(64, seed).tables)));
     all.push(case("chain of 16, worst to find, no plan", 64, |seed| worst_to_find(16, 64, seed)));
     all.push(case("nothing shared by 16, no plan", 1, |seed| nothing_shared(16, 1, seed)));
+    all
+}
+
+/// Files of growing size that have few choices of rows, shape after shape.
+pub fn few_choices() -> Vec<Case> {
+    let mut all = Vec::new();
+    let mut add = |shape: &str, sizes: &[usize], make: fn(usize, u64) -> Input| {
+        all.extend(sizes.iter().map(|&n| case(shape, n, move |seed| make(n, seed))));
+    };
+    add("one table", &[0, 1, 4096], |n, seed| one_partner(1, n, seed));
+    add("one partner, chain of 2", &[0, 1, 2, 3, 4, 8, 32, 1024], |n, seed| one_partner(2, n, seed));
+    add("one partner, chain of 3", &[1, 2, 4, 101], |n, seed| one_partner(3, n, seed));
+    add("one partner, chain of 16", &[1, 2], |n, seed| one_partner(16, n, seed));
+    add("few rows before 4096", &[0, 1, 2, 3, 4], |n, seed| few_before(n, 4096, seed));
+    add("scratch of 16384, chain of 2", &[1, 4, 8, 12, 16], |n, seed| longer_scratch(one_partner(2, n, seed)));
     all
 }

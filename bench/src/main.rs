@@ -1,11 +1,12 @@
-//! The bench: the proved join beside an unproved twin, a HashMap join and SQLite, on the same files in one run.
+//! The bench: the proved join beside an unproved twin, a HashMap join, SQLite and the library's slow engine, on the same files in
+//! one run.
 //!
-//!     bench [NAME]              the tables: times as ratios, growth, instructions; what mending a plan and finding one cost; of the
-//!                               files whose names have NAME in them
+//!     bench [NAME]              the tables: times as ratios, growth, instructions; what mending a plan and finding one cost; from
+//!                               which size on the join costs less than the slow engine; of the files whose names have NAME in them
 //!     bench --quick [NAME]      the tables without instructions
 //!     bench --check [NAME]      no times: whether all give the same results
-//!     bench --once [NAME]       each file once by the library and once by the twin, for callgrind; then those with mended plans,
-//!                               those without plans, and those with found ones
+//!     bench --once [NAME]       each file once by the library, the twin and the slow engine, for callgrind; then those with mended
+//!                               plans, those without plans, those with found ones, and those of few choices
 //!     bench --files FOLDER      writes the files
 
 mod finding;
@@ -16,6 +17,7 @@ mod mending;
 #[cfg(test)]
 mod model;
 mod plans;
+mod slow;
 mod small;
 mod sqlite;
 mod twin;
@@ -24,8 +26,8 @@ use std::hint::black_box;
 use std::process::{Command, Stdio};
 use std::time::{Duration, Instant};
 
-use inputs::{Case, Input};
-use library::Answer;
+use inputs::{choices, Case, Input, Table};
+use library::{Answer, SlowAnswer};
 use sqlite::{Order, Query};
 
 /// The longest output that document 01 uses.
@@ -33,6 +35,12 @@ const OUTPUT_WORDS: usize = 1_048_576;
 
 /// How many small files are tried, with any plans and without.
 const SMALL_FILES: u64 = 20_000;
+
+/// The most choices of a small file that the slow engine is tried on, but for those that it refuses.
+const SMALL_CHOICES: u64 = 100_000;
+
+/// Instructions for one file: of the library, the twin and the slow engine.
+type Counts = [u64; 3];
 
 /// Buffers for one file. They are lent as the run before left them: the join zeroes its scratch itself, before and after.
 struct Buffers {
@@ -55,7 +63,7 @@ fn summary(values: &[u32], width: usize) -> (usize, u64) {
 }
 
 /// The results' values. Panics where two contestants give different ones; the twin must agree with the library in every word and
-/// count.
+/// count, the slow engine in the answer and every word of the output.
 fn check(name: &str, input: &Input, queries: [&mut Query; 2]) -> Vec<u32> {
     let (mut one, mut two) = (Buffers::new(input), Buffers::new(input));
     one.scratch.fill(5);
@@ -68,6 +76,8 @@ fn check(name: &str, input: &Input, queries: [&mut Query; 2]) -> Vec<u32> {
     if let Some(partner) = input.partner() {
         check_partner(name, &partner, &answer, &one.output);
     }
+    let choices = choices(&input.tables);
+    slow::check(&name, &input.file, choices, (&answer, &one.output), &mut vec![0; OUTPUT_WORDS]);
     let values = one.output[..answer.rows as usize * input.width].to_vec();
     let expected = summary(&values, input.width);
     assert_eq!(expected, summary(&hashmap::join(&input.file, input.given()), input.width), "{name}: HashMap");
@@ -75,11 +85,14 @@ fn check(name: &str, input: &Input, queries: [&mut Query; 2]) -> Vec<u32> {
         assert_eq!(expected, summary(&query.run(), input.width), "{name}: SQLite");
     }
     // A word of scratch less, or an output that is too short, is refused in the same way.
-    let scratch = &mut one.scratch[1..];
-    assert_eq!(library::join(&input.file, scratch, &mut one.output), twin::twin_join(&input.file, scratch, &mut one.output));
+    if let Some(scratch) = one.scratch.get_mut(1..) {
+        assert_eq!(library::join(&input.file, scratch, &mut one.output), twin::twin_join(&input.file, scratch, &mut one.output));
+    }
     let short = &mut one.output[..values.len().saturating_sub(1)];
     let other = &mut two.output[..short.len()];
-    assert_eq!(library::join(&input.file, &mut two.scratch, short), twin::twin_join(&input.file, &mut two.scratch, other));
+    let refused = library::join(&input.file, &mut two.scratch, short);
+    assert_eq!(refused, twin::twin_join(&input.file, &mut two.scratch, other));
+    slow::check(&name, &input.file, choices, (&refused, short), other);
     values
 }
 
@@ -100,13 +113,15 @@ fn limit(file: &[u8], values: &[u32], output: &mut [u32]) -> u32 {
     file.chunks_exact(4).fold(0, |s, w| s ^ u32::from_le_bytes(w.try_into().unwrap()))
 }
 
-/// The twin must refuse what the library refuses, with the same answer: every cut of a file, and every value of every byte.
+/// The twin and the slow engine must refuse what the library refuses, with the same answer: every cut of a file, and every value of
+/// every byte. The file is so short that it never has too many choices.
 fn check_damaged(file: &[u8]) {
     let agree = |bytes: &[u8]| {
-        let (mut s, mut o) = ([0; 96], [0; 16]);
-        let (mut t, mut p) = (s, o);
+        let (mut s, mut o) = ([7; 96], [7; 16]);
+        let (mut t, mut p, mut q) = (s, o, o);
         let answer = library::join(bytes, &mut s, &mut o);
         assert_eq!((answer, s, o), (twin::twin_join(bytes, &mut t, &mut p), t, p), "{bytes:?}");
+        slow::check(&bytes, bytes, 0, (&answer, &o), &mut q);
     };
     for end in 0..file.len() {
         agree(&file[..end]);
@@ -118,38 +133,47 @@ fn check_damaged(file: &[u8]) {
     }
 }
 
-/// The twin must do with any plan what the library does: small files of up to 16 tables, with buffers that are too short for some.
+/// The twin and the slow engine must do with any plan what the library does: small files of up to 16 tables, with buffers that are too
+/// short for some.
 fn check_plans() {
-    let (mut mended, mut refused) = (0, 0);
+    let (mut mended, mut refused, mut slow) = (0, 0, Vec::new());
     for seed in 0..SMALL_FILES {
         let (tables, plan) = small::tables_and_plan(1 + seed as usize % 16, seed);
-        let answer = check_small(&inputs::bytes(&tables, &plan.code()));
+        let (answer, slow_answer) = check_small(&tables, &plan.code());
         refused += u64::from(answer.number == 9);
         mended += u64::from(plan.mended(&tables).is_some_and(|m| m != plan));
+        slow.extend(slow_answer);
     }
     println!("{SMALL_FILES} small files: library and twin agree; {mended} plans mended, {refused} refused by answer 9");
+    println!("{}", slow::agreed(&slow));
 }
 
-/// The twin must find the plan that the library finds for small files without one, and join by it, or refuse as the library does.
+/// The twin and the slow engine must find the plan that the library finds for small files without one, and join by it, or refuse as
+/// the library does.
 fn check_found() {
-    let (mut found, mut refused) = (0, 0);
+    let (mut found, mut refused, mut slow) = (0, 0, Vec::new());
     for seed in 0..SMALL_FILES {
-        let answer = check_small(&inputs::bytes(&small::tables_alone(1 + seed as usize % 16, seed), &[]));
+        let (answer, slow_answer) = check_small(&small::tables_alone(1 + seed as usize % 16, seed), &[]);
         refused += u64::from(answer.number == 14);
         found += u64::from(answer.number != 14);
+        slow.extend(slow_answer);
     }
     println!(
         "{SMALL_FILES} small files without a plan: library and twin agree; {found} plans found, {refused} refused by answer 14"
     );
+    println!("{}", slow::agreed(&slow));
 }
 
-/// The answer of library and twin, which must agree in it and in the buffers.
-fn check_small(file: &[u8]) -> Answer {
+/// The answer of library and twin, which must agree in it and in the buffers; and the slow engine's, where it is compared.
+fn check_small(tables: &[Table], code: &[u8]) -> (Answer, Option<SlowAnswer>) {
+    let file = inputs::bytes(tables, code);
     let (mut s, mut o) = ([7; 500], [7; 2000]);
-    let (mut t, mut p) = (s, o);
-    let answer = library::join(file, &mut s, &mut o);
-    assert_eq!((answer, s, o), (twin::twin_join(file, &mut t, &mut p), t, p), "{file:?}");
-    answer
+    let (mut t, mut p, mut q) = (s, o, o);
+    let answer = library::join(&file, &mut s, &mut o);
+    assert_eq!((answer, s, o), (twin::twin_join(&file, &mut t, &mut p), t, p), "{file:?}");
+    let choices = choices(tables);
+    let tried = choices <= SMALL_CHOICES || slow::too_many(choices);
+    (answer, tried.then(|| slow::check(&file, &file, choices, (&answer, &o), &mut q)).flatten())
 }
 
 /// A file's results' values, by `check` with databases of its own.
@@ -171,8 +195,9 @@ fn check_all<'a>(cases: impl Iterator<Item = &'a Case>) {
         let mut b = Buffers::new(&input);
         let a = library::join(&input.file, &mut b.scratch, &mut b.output);
         println!(
-            "{}: all agree; {results} results, entries {}, lookups {}, comparisons {}, visits {}",
+            "{}: all agree{}; {results} results, entries {}, lookups {}, comparisons {}, visits {}",
             case.name(),
+            if slow::too_many(choices(&input.tables)) { " (slow engine: 15)" } else { "" },
             a.entries,
             a.lookups,
             a.comparisons,
@@ -214,27 +239,29 @@ fn times(contestants: &mut [&mut dyn FnMut()]) -> Vec<Duration> {
     least
 }
 
-/// Instructions of the library and of the twin for each file, by callgrind, or nothing where there is no valgrind.
-fn instructions(count: usize, name: &str) -> Option<Vec<[u64; 2]>> {
+/// Instructions of the library, the twin and the slow engine for each file, by callgrind, or nothing where there is no valgrind.
+fn instructions(count: usize, name: &str) -> Option<Vec<Counts>> {
     let folder = std::env::temp_dir().join(format!("bench-callgrind-{}", std::process::id()));
     std::fs::create_dir_all(&folder).unwrap();
     let mut command = Command::new("valgrind");
     // Else memset and memcpy use string instructions, which callgrind counts once a byte.
     command.env("GLIBC_TUNABLES", "glibc.cpu.x86_rep_stosb_threshold=2000000000:glibc.cpu.x86_rep_movsb_threshold=2000000000");
     command.arg("--tool=callgrind");
-    for function in ["pigrozd_join", "twin_join"] {
+    // The slow engine by the end of its name: callgrind 3.19 loses one of two functions whose names begin alike.
+    for function in ["pigrozd_join", "twin_join", "*_slow_join"] {
         command.arg(format!("--toggle-collect={function}")).arg(format!("--dump-after={function}"));
     }
     command.arg(format!("--callgrind-out-file={}", folder.join("out").display()));
     command.arg(std::env::current_exe().unwrap()).args(["--once", name]).stdout(Stdio::null()).stderr(Stdio::null());
     let ran = command.status().is_ok_and(|s| s.success());
-    // One dump a call, numbered from 1: library, twin, library and so on.
-    let totals: Vec<u64> = (1..=2 * count)
+    // One dump a call, numbered from 1: library, twin, slow engine, library and so on.
+    let totals: Vec<u64> = (1..=3 * count)
         .map_while(|i| std::fs::read_to_string(folder.join(format!("out.{i}"))).ok())
         .filter_map(|text| text.lines().find_map(|l| l.strip_prefix("totals: ").and_then(|n| n.trim().parse().ok())))
         .collect();
     let _ = std::fs::remove_dir_all(&folder);
-    (ran && totals.len() == 2 * count).then(|| totals.chunks_exact(2).map(|p| [p[0], p[1]]).collect())
+    let counted = ran && totals.len() == 3 * count && totals.iter().all(|&n| n > 0);
+    counted.then(|| totals.chunks_exact(3).map(|c| [c[0], c[1], c[2]]).collect())
 }
 
 fn once(case: &Case) {
@@ -243,6 +270,7 @@ fn once(case: &Case) {
     println!("{}", case.name());
     black_box(library::join(&input.file, &mut b.scratch, &mut b.output));
     black_box(twin::twin_join(&input.file, &mut b.scratch, &mut b.output));
+    black_box(library::slow_join(&input.file, &mut b.output));
 }
 
 fn ratio(x: f64) -> String {
@@ -256,7 +284,7 @@ fn ratio(x: f64) -> String {
 /// A column's head and its width.
 type Column = (&'static str, usize);
 
-const COLUMNS: [Column; 11] = [
+const COLUMNS: [Column; 12] = [
     ("file x rows in each table", 39),
     ("results", 7),
     ("library, us", 11),
@@ -264,6 +292,7 @@ const COLUMNS: [Column; 11] = [
     ("HashMap", 7),
     ("SQLite forced", 13),
     ("SQLite free", 11),
+    ("slow engine", 11),
     ("limit", 5),
     ("growth", 9),
     ("instructions", 12),
@@ -294,7 +323,7 @@ fn print_heads(columns: &[Column]) {
 }
 
 /// The results of a case's first file, and the times for one file in microseconds: of the library, the twin, the HashMap join,
-/// SQLite forced and free, and the limit. All must agree first.
+/// SQLite forced and free, the limit, and the slow engine unless there are too many choices. All must agree first.
 fn measure(case: &Case) -> (usize, Vec<f64>) {
     let files = case.files();
     let mut forced: Vec<Query> = files.iter().map(|f| Query::new(f, Order::Forced)).collect();
@@ -303,20 +332,28 @@ fn measure(case: &Case) -> (usize, Vec<f64>) {
     let results: Vec<Vec<u32>> = files.iter().zip(queries).map(|(f, (q, r))| check(&case.name(), f, [q, r])).collect();
     let (mut one, mut two) = (Buffers::new(&files[0]), Buffers::new(&files[0]));
     let mut output = vec![0; OUTPUT_WORDS];
-    let t = times(&mut [
+    let mut slow_output = vec![0; OUTPUT_WORDS];
+    let mut contestants: [&mut dyn FnMut(); 7] = [
         &mut || files.iter().for_each(|f| _ = black_box(library::join(&f.file, &mut one.scratch, &mut one.output))),
         &mut || files.iter().for_each(|f| _ = black_box(twin::twin_join(&f.file, &mut two.scratch, &mut two.output))),
         &mut || files.iter().for_each(|f| _ = black_box(hashmap::join(&f.file, f.given()))),
         &mut || forced.iter_mut().for_each(|q| _ = black_box(q.run())),
         &mut || free.iter_mut().for_each(|q| _ = black_box(q.run())),
         &mut || files.iter().zip(&results).for_each(|(f, v)| _ = black_box(limit(&f.file, v, black_box(&mut output)))),
-    ]);
-    let per_file = |d: &Duration| d.as_secs_f64() * 1e6 / files.len() as f64;
-    (results[0].len() / files[0].width, t.iter().map(per_file).collect())
+        &mut || files.iter().for_each(|f| _ = black_box(library::slow_join(&f.file, &mut slow_output))),
+    ];
+    let count = if slow::too_many(choices(&files[0].tables)) { 6 } else { 7 };
+    let t = times(&mut contestants[..count]);
+    (results[0].len() / files[0].width, t.iter().map(|&d| per_file(d, &files)).collect())
+}
+
+/// The time for one of some files in microseconds.
+fn per_file(time: Duration, files: &[Input]) -> f64 {
+    time.as_secs_f64() * 1e6 / files.len() as f64
 }
 
 /// By how much a case grew per doubling of rows, from the case of that shape before it: the library's time, its instructions.
-fn growth(cases: &[Case], times: &[f64], counts: Option<&[[u64; 2]]>, i: usize) -> String {
+fn growth(cases: &[Case], times: &[f64], counts: Option<&[Counts]>, i: usize) -> String {
     let Some(before) = cases[..i].iter().rposition(|c| c.shape == cases[i].shape) else { return String::new() };
     let doublings = (cases[i].rows as f64 / cases[before].rows as f64).log2();
     let per = |x: f64| ratio(x.powf(1.0 / doublings));
@@ -324,11 +361,12 @@ fn growth(cases: &[Case], times: &[f64], counts: Option<&[[u64; 2]]>, i: usize) 
     format!("{} {more}", per(times[i] / times[before]))
 }
 
-fn table(cases: &[Case], counts: Option<&[[u64; 2]]>) {
+fn table(cases: &[Case], counts: Option<&[Counts]>) {
     println!(
         "Times of the others are ratios to the library's. SQLite {}, tables loaded, statement prepared before.",
         sqlite::version()
     );
+    println!("Slow engine: its time and its instructions as ratios; 15 where a file has too many choices of rows for it.");
     println!("Limit: each byte of the file read once, each word of the results written once.");
     println!("Growth per doubling of rows, from the file of that shape before it: the library's time, its instructions.");
     println!("Instructions of the library by callgrind, and their ratio to the twin's.\n");
@@ -339,6 +377,7 @@ fn table(cases: &[Case], counts: Option<&[[u64; 2]]>) {
         library_times.push(t[0]);
         let mut cells = vec![case.name(), results.to_string(), format!("{:.1}", t[0])];
         cells.extend(t[1..5].iter().map(|other| ratio(other / t[0])));
+        cells.push(slow::cell(t.get(6).map(|slow| slow / t[0]), counts.map(|c| &c[i])));
         cells.push(format!("{:.3}", t[5] / t[0]));
         cells.push(growth(cases, &library_times, counts, i));
         cells.push(counts.map_or("-".into(), |c| c[i][0].to_string()));
@@ -367,7 +406,7 @@ fn file_times(contestants: &[(Join, &[Input])]) -> Vec<f64> {
 }
 
 /// What mending costs, for cases with their partners.
-fn mending_table(run: &Run, counts: Option<&[[u64; 2]]>) {
+fn mending_table(run: &Run, counts: Option<&[Counts]>) {
     println!("\nMending: what a file takes more than the file with the mended plan in it, which is joined in the same way.");
     println!("Join is the library's for the latter; the twin's mending stands behind the library's.\n");
     print_heads(&MENDING_COLUMNS);
@@ -375,7 +414,7 @@ fn mending_table(run: &Run, counts: Option<&[[u64; 2]]>) {
 }
 
 /// What finding costs, for cases with their partners. All must agree first.
-fn finding_table(run: &Run, counts: Option<&[[u64; 2]]>) {
+fn finding_table(run: &Run, counts: Option<&[Counts]>) {
     println!("\nFinding: what a file without a plan takes more than the file with the found plan in it, which is joined in the same way.");
     println!("Join is the library's for the latter; the twin's finding stands behind the library's.\n");
     print_heads(&FINDING_COLUMNS);
@@ -387,7 +426,7 @@ fn finding_table(run: &Run, counts: Option<&[[u64; 2]]>) {
 }
 
 /// The row of a case and its partner: what the first takes more than the second.
-fn print_cost(columns: &[Column], run: &Run, &[i, p]: &[usize; 2], counts: Option<&[[u64; 2]]>) {
+fn print_cost(columns: &[Column], run: &Run, &[i, p]: &[usize; 2], counts: Option<&[Counts]>) {
     let (files, partners) = (run.cases[i].files(), run.cases[p].files());
     let [library, twin]: [Join; 2] = [library::join, twin::twin_join];
     let t = file_times(&[(library, &files), (library, &partners), (twin, &files), (twin, &partners)]);
@@ -398,13 +437,13 @@ fn print_cost(columns: &[Column], run: &Run, &[i, p]: &[usize; 2], counts: Optio
 }
 
 /// What the library takes more in instructions, its ratio to those of the join, and what the twin does.
-fn cost_counts(with: [u64; 2], without: [u64; 2]) -> [String; 3] {
+fn cost_counts(with: Counts, without: Counts) -> [String; 3] {
     let more = |i: usize| with[i] as i64 - without[i] as i64;
     [more(0).to_string(), format!("{:.3}", more(0) as f64 / without[0] as f64), more(1).to_string()]
 }
 
 /// The cases of a run, in the order in which instructions are counted: those of the first table, the partners of such as are mended,
-/// those without a plan, and their partners.
+/// those without a plan, their partners, and those of few choices.
 struct Run {
     cases: Vec<Case>,
     /// How many stand in the first table.
@@ -412,6 +451,8 @@ struct Run {
     /// By their places, cases with their partners.
     mended: Vec<[usize; 2]>,
     found: Vec<[usize; 2]>,
+    /// From where on they have few choices.
+    few: usize,
 }
 
 impl Run {
@@ -424,15 +465,18 @@ impl Run {
         let from = cases.len();
         cases.extend(of_name(inputs::without_plan()));
         let found = add_partners(&mut cases, from);
-        Run { cases, shown, mended, found }
+        let few = cases.len();
+        cases.extend(of_name(inputs::few_choices()));
+        Run { cases, shown, mended, found, few }
     }
 
     /// All cases that are no partners.
     fn own(&self) -> impl Iterator<Item = &Case> {
-        self.cases[..self.shown].iter().chain(self.found.iter().map(|pair| &self.cases[pair[0]]))
+        let without_plan = self.found.iter().map(|pair| &self.cases[pair[0]]);
+        self.cases[..self.shown].iter().chain(without_plan).chain(&self.cases[self.few..])
     }
 
-    fn print(&self, counts: Option<Vec<[u64; 2]>>) {
+    fn print(&self, counts: Option<Vec<Counts>>) {
         let counts = counts.as_deref();
         if self.shown > 0 {
             table(&self.cases[..self.shown], counts);
@@ -442,6 +486,9 @@ impl Run {
         }
         if !self.found.is_empty() {
             finding_table(self, counts);
+        }
+        if self.few < self.cases.len() {
+            slow::table(&self.cases[self.few..], counts.map(|c| &c[self.few..]));
         }
     }
 }

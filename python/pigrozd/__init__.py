@@ -16,12 +16,13 @@
 Columns with one name, in different tables, are joined. None is a value that was not recorded: it matches nothing, and
 comes back where its column is in one table only. The library finds a plan, or takes the one that is given, as in
 join(tables, "(frames (exposures readings))"), and mends it if it is not well-behaved; result.plan is the plan that was
-followed. What cannot be joined raises Refused, TypeError or ValueError.
+followed. What cannot be joined raises Refused, TypeError or ValueError. join(tables, engine="slow") has the slow
+engine, for acceptance days, go through every choice of rows; it gives the same result, without counts.
 docs/PYTHON.md says more; `python3 -m pigrozd --help` joins CSV files.
 """
 from .answers import MEANINGS, Refused
 from .joining import join, join_file, make_file
-from .library import Answer, LibraryError, call
+from .library import Answer, Engine, LibraryError, SlowAnswer, call, call_slow
 from .messages import InputError
 from .results import Counts, Result
 from .values import NOT_RECORDED
@@ -32,7 +33,10 @@ __all__ = [
     "join_file",
     "make_file",
     "call",
+    "call_slow",
     "Answer",
+    "SlowAnswer",
+    "Engine",
     "Counts",
     "Result",
     "Refused",

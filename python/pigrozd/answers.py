@@ -25,11 +25,13 @@ MEANINGS: Dict[int, Meaning] = {
     12: Meaning("two counts of the results differ", "0"),
     13: Meaning("standard input is too long", "65536"),
     14: Meaning("no plan can be found for these tables", "lowest number of a table that remains"),
+    15: Meaning("more choices than the slow engine goes through", "0"),
 }
 
 LAST_OF_RECORDS = 6  # answers up to this one have an offset in the file as their detail, or are 0
 LAST_OF_PLANS = 9  # further answers up to this one have an index in the plan as their detail
 NONE_FOUND = 14  # in place of 8 and 9 where a file with tables has no plan; its detail is the number of a table
+TOO_MANY_CHOICES = 15  # in place of 10 where the slow engine is called
 
 
 class Refused(Exception):

@@ -11,6 +11,7 @@ from typing import Any, List, NoReturn, Optional, Sequence
 from . import __version__, commands
 from .answers import Refused
 from .commands import REFUSED, UNUSABLE
+from .limits import MOST_CHOICES
 from .messages import InputError
 from .streams import PROGRAM, tell, write_out
 from .values import LARGEST
@@ -138,6 +139,13 @@ def add_join(subparsers: Any) -> None:
         "--explain",
         action="store_true",
         help="draw the plan that the join follows on standard error, with the work that was done",
+    )
+    p.add_argument(
+        "--engine",
+        metavar="ENGINE",
+        default="join",
+        help="join; or slow, for acceptance days: the slow engine goes through every choice of rows, {:,} at most, "
+        "and gives the same rows, without counts (without this: join)".format(MOST_CHOICES),
     )
     add_csv_options(p)
 

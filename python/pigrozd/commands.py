@@ -6,9 +6,10 @@ import shlex
 from typing import List, Optional, Sequence, Tuple, Union
 
 from . import csvfiles, dumps, fileformat, files, plans
-from .answers import LAST_OF_PLANS, LAST_OF_RECORDS, MEANINGS, NONE_FOUND, Refused
+from .answers import LAST_OF_PLANS, LAST_OF_RECORDS, MEANINGS, NONE_FOUND, TOO_MANY_CHOICES, Refused
 from .drawing import Drawing, DrawingOfStuck, drawing_without_plan
 from .joining import join_bytes
+from .library import engine_named
 from .limits import PROGRAM_BYTES, PROGRAM_WORDS
 from .messages import InputError, count
 from .names import NAMES_ENDING, Names, digest, digest_in, fault_of_table_name, load_beside, names_beside, names_text
@@ -115,6 +116,7 @@ def join(a: Arguments) -> int:
 
 def join_and_write(a: Arguments) -> int:
     """Joins what the arguments name, and writes the rows."""
+    engine = engine_named(a.engine, "--engine")
     if a.output != "-":
         files.refuse_target(a.output, a.files + [path + NAMES_ENDING for path in a.files])
     data, names = load_inputs(a)
@@ -122,7 +124,7 @@ def join_and_write(a: Arguments) -> int:
     drawing = drawing_of(file, names) if a.explain else None
     if drawing:
         tell("\n".join(drawing.tree(followed_alone=True)), prefix="")
-    result = join_bytes(data, names)
+    result = join_bytes(data, names, engine=engine)
     if isinstance(drawing, Drawing):
         tell("\n".join([""] + drawing.work(result)), prefix="")
     text = csvfiles.columns_text([(int(attribute), values) for attribute, values in result.columns.items()], names)
@@ -263,6 +265,8 @@ def what_helps(path: str, refused: Refused) -> str:
         return "%s shows why" % command_text("plan", operand(path))
     if refused.number == 12:
         return "it is never given, and docs/answers/12.md says what to look at"
+    if refused.number == TOO_MANY_CHOICES:
+        return "it is the slow engine's answer, and this program never gives it"
     return "%s has more room" % command_text("join", operand(path))
 
 

@@ -1,12 +1,13 @@
 """A plan drawn, as it was sent, or found, and as the join follows it: as a text tree, and as Graphviz DOT. So are
-tables for which no plan can be found. And the work of a join beside its bound."""
+tables for which no plan can be found. And the work of a join beside its bound, or of the slow engine."""
 from typing import Callable, List, Optional, Sequence, Tuple, Union
 
 from . import finding, mending, plans
 from .answers import MEANINGS, NONE_FOUND
+from .limits import MOST_CHOICES
 from .messages import count
 from .names import Names
-from .results import Result
+from .results import Counts, Result
 
 Describe = Callable[[plans.Join], List[str]]  # the lines that a join has in a drawing
 Part = Tuple[str, plans.Plan, Describe]  # a plan that is drawn, with its title, which is empty if it is the only one
@@ -160,21 +161,37 @@ class Drawing(DrawnTables):
 
     # ---- work
     def work(self, result: Result) -> List[str]:
-        """The work that a join of this plan did, count by count, and the bound on it."""
-        counted = [
+        """The work that was done to join by this plan."""
+        rows = [
             ("rows of the tables (IN)", sum(table.rows or 0 for table in self.tables)),
             ("rows of the result (OUT)", result.rows),
-            ("entries: rows put into a dictionary", result.entries),
-            ("lookups: rows looked up in one", result.lookups),
-            ("comparisons of two keys", result.comparisons),
-            ("visits of tables for results", result.visits),
-            ("values written", result.rows * len(result.columns)),
+        ]
+        written = ("values written", result.rows * len(result.columns))
+        if result.counts:
+            return in_columns(rows) + self.counted(result.counts, written, result.rows)
+        choices = ("choices that the slow engine tried", plans.choices(self.tables))
+        limits = ("the most that it goes through", MOST_CHOICES)
+        return in_columns(rows + [choices, limits, written])
+
+    def counted(self, counts: Counts, written: Tuple[str, int], out: int) -> List[str]:
+        """The work of a join, count by count, and the bound on it."""
+        counted = [
+            ("entries: rows put into a dictionary", counts.entries),
+            ("lookups: rows looked up in one", counts.lookups),
+            ("comparisons of two keys", counts.comparisons),
+            ("visits of tables for results", counts.visits),
+            written,
         ]
         followed = self.mended.plan if self.mended else self.plan
-        bound, reason = plans.work_bound(followed, self.tables, result.rows)
-        counted.append(("work: entries to values written", sum(number for _, number in counted[2:])))
+        bound, reason = plans.work_bound(followed, self.tables, out)
+        counted.append(("work: entries to values written", sum(number for _, number in counted)))
         counted.append(("bound: (32a + 2) k IN + (k + w) OUT", bound))
-        return ["{:36} {:>13,}".format(*line) for line in counted] + ["       = " + reason]
+        return in_columns(counted) + ["       = " + reason]
+
+
+def in_columns(lines: Sequence[Tuple[str, int]]) -> List[str]:
+    """Numbers below each other, each with what it is before it."""
+    return ["{:36} {:>13,}".format(*line) for line in lines]
 
 
 # ---- without a plan

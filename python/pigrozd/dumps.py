@@ -2,9 +2,9 @@
 from typing import Callable, List, Optional, Tuple
 
 from . import fileformat, finding, mending, plans
-from .answers import LAST_OF_PLANS, LAST_OF_RECORDS, MEANINGS, NONE_FOUND
+from .answers import LAST_OF_PLANS, LAST_OF_RECORDS, MEANINGS, NONE_FOUND, TOO_MANY_CHOICES
 from .fileformat import File
-from .limits import MOST_ATTRIBUTES, MOST_ROWS, PROGRAM_BYTES
+from .limits import MOST_ATTRIBUTES, MOST_CHOICES, MOST_ROWS, PROGRAM_BYTES
 from .messages import count
 from .names import Names
 from .values import NOT_RECORDED
@@ -194,6 +194,9 @@ def summary(path: str, file: File, names: Names) -> List[str]:
         lines += followed_in_words(file, file.mended, names)
     if len(file.data) > PROGRAM_BYTES:
         lines.append("the program says 13: it takes files of at most 65,536 bytes")
+    if not file.fault and plans.choices(file.tables) > MOST_CHOICES:
+        choices = plans.choices_in_words(file.tables)
+        lines.append("the slow engine says 15: {}, and it goes through {:,} at most".format(choices, MOST_CHOICES))
     return lines
 
 
@@ -220,6 +223,10 @@ def doubt(file: File, number: int, detail: int) -> Optional[str]:
         return "this file is within the rules"
     if number == 10 and file.mended and detail != plans.words_needed(file.mended.plan, file.tables):
         return "this file needs %s" % count(plans.words_needed(file.mended.plan, file.tables), "word")
+    if number == TOO_MANY_CHOICES and plans.choices(file.tables) <= MOST_CHOICES:
+        return "this file has %s" % plans.choices_in_words(file.tables)
+    if number == TOO_MANY_CHOICES and detail:
+        return "the detail of 15 is 0"
     return None
 
 

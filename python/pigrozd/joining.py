@@ -4,11 +4,12 @@ import warnings
 from typing import Dict, Optional, Tuple, Union
 
 from . import plans
-from .answers import LAST_OF_PLANS, NONE_FOUND, Refused
+from .answers import LAST_OF_PLANS, NONE_FOUND, TOO_MANY_CHOICES, Refused
 from .fileformat import File, plan_record, read
 from .files import load
-from .library import Answer, BytesLike, bytes_of, call_with_enough
-from .limits import HIGHEST_COUNT, MOST_OUTPUT
+from .library import Answer, BytesLike, Engine, SlowAnswer
+from .library import bytes_of, call_slow_with_enough, call_with_enough, engine_named
+from .limits import HIGHEST_COUNT, MOST_CHOICES, MOST_OUTPUT
 from .messages import count
 from .names import Names, names_beside
 from .results import Key, Result
@@ -16,7 +17,10 @@ from .tables import GivenTables, records_of
 from .values import Values, column_of_words
 
 
-def join(tables: GivenTables, plan: Optional[plans.GivenPlan] = None) -> Result:
+NO_COUNTS = (None, None, None, None)  # of a result that the slow engine gave
+
+
+def join(tables: GivenTables, plan: Optional[plans.GivenPlan] = None, engine: Engine = "join") -> Result:
     """Joins tables, by a plan or without one: a Result, or Refused.
 
     tables: a list of tables, or a mapping of table names to tables. A table is a mapping of attributes to columns, a
@@ -27,9 +31,13 @@ def join(tables: GivenTables, plan: Optional[plans.GivenPlan] = None) -> Result:
     as "(frames (exposures readings))"; or the plan's bytes, as a file has them. Without a plan, or with no bytes, the
     library finds one if there is one. A plan that is not well-behaved is mended. The result names the plan that was
     followed.
+
+    engine: "join"; or "slow" for the slow engine, which goes through every choice of rows and gives the same result,
+    without counts. It refuses tables that have more than 1,048,576 choices.
     """
+    engine = engine_named(engine, "engine")
     data, names, keys = packed(tables, plan)
-    return join_bytes(data, names, keys)
+    return join_bytes(data, names, keys, engine)
 
 
 def make_file(tables: GivenTables, plan: Optional[plans.GivenPlan] = None) -> bytes:
@@ -38,18 +46,19 @@ def make_file(tables: GivenTables, plan: Optional[plans.GivenPlan] = None) -> by
     return packed(tables, plan)[0]
 
 
-def join_file(file: Union[str, "os.PathLike[str]", BytesLike]) -> Result:
-    """Joins a file: a Result, or Refused. `file` is its path, or its bytes.
+def join_file(file: Union[str, "os.PathLike[str]", BytesLike], engine: Engine = "join") -> Result:
+    """Joins a file: a Result, or Refused. `file` is its path, or its bytes. The engines are those of `join`.
 
     Columns are called by attribute number; with names beside the path (PATH.names, of this very file), by name."""
+    engine = engine_named(engine, "engine")
     if not isinstance(file, (str, os.PathLike)):
-        return join_bytes(bytes_of(file), Names())
+        return join_bytes(bytes_of(file), Names(), engine=engine)
     path = os.fsdecode(file)
     data = load(path)
     names = names_beside(path, data, lambda text: warnings.warn(text, stacklevel=4))
     if not names.attributes:
-        return join_bytes(data, names)
-    return join_bytes(data, names, {a: names.attribute(a) for a in plans.width(read(data).tables)})
+        return join_bytes(data, names, engine=engine)
+    return join_bytes(data, names, {a: names.attribute(a) for a in plans.width(read(data).tables)}, engine)
 
 
 def packed(tables: GivenTables, plan: Optional[plans.GivenPlan]) -> Tuple[bytes, Names, Dict[int, Key]]:
@@ -59,9 +68,15 @@ def packed(tables: GivenTables, plan: Optional[plans.GivenPlan]) -> Tuple[bytes,
     return records + plan_record(code), names, keys
 
 
-def join_bytes(data: bytes, names: Names, keys: Optional[Dict[int, Key]] = None) -> Result:
+def join_bytes(
+    data: bytes, names: Names, keys: Optional[Dict[int, Key]] = None, engine: Engine = "join"
+) -> Result:
     """Joins a file's bytes: a Result, or Refused in these names. Without `keys` columns are called by number."""
-    answer, output = call_with_enough(data)
+    answer: Union[Answer, SlowAnswer]
+    if engine == "slow":
+        answer, output = call_slow_with_enough(data)
+    else:
+        answer, output = call_with_enough(data)
     file = read(data, names)
     if answer.number:
         raise refusal(answer, file, names)
@@ -70,8 +85,8 @@ def join_bytes(data: bytes, names: Names, keys: Optional[Dict[int, Key]] = None)
     columns: Dict[Key, Values] = {}
     for place, a in enumerate(attributes):
         columns[keys[a] if keys else a] = column_of_words(output[place : end : len(attributes)])
-    counts = (answer.entries, answer.lookups, answer.comparisons, answer.visits)
-    return Result(columns, answer.rows, *counts, *followed(file, names))
+    counts = answer[3:] if isinstance(answer, Answer) else NO_COUNTS
+    return Result(columns, answer.rows, *counts, *followed(file, names), engine)
 
 
 def followed(file: File, names: Names) -> Tuple[str, bytes, bool, bool]:
@@ -85,7 +100,7 @@ def followed(file: File, names: Names) -> Tuple[str, bytes, bool, bool]:
     return text, file.mended.code, not found and file.mended.code != file.code, found
 
 
-def refusal(answer: Answer, file: File, names: Names) -> Refused:
+def refusal(answer: Union[Answer, SlowAnswer], file: File, names: Names) -> Refused:
     """The library's refusal of a file, in these names."""
     number, detail = answer.number, answer.detail
     if number <= LAST_OF_PLANS or number == NONE_FOUND:
@@ -93,6 +108,8 @@ def refusal(answer: Answer, file: File, names: Names) -> Refused:
         return fault if fault and (fault.number, fault.detail) == (number, detail) else Refused(number, detail)
     if number == 11:
         return Refused(number, detail, too_many(detail, file, names))
+    if number == TOO_MANY_CHOICES:
+        return Refused(number, detail, too_many_choices(file))
     return Refused(number, detail)
 
 
@@ -110,3 +127,11 @@ def too_many(results: int, file: File, names: Names) -> str:
         if not plans.key(join, file.tables):
             why += "; the join of %s is on no attribute, so that every pair matches" % plans.sides_of(join, names)
     return why
+
+
+def too_many_choices(file: File) -> str:
+    """How many choices there are, how many the slow engine goes through, and what to do."""
+    return (
+        "one row of each table makes {}, and the slow engine goes through {:,} at most; give it fewer rows, or leave "
+        "the tables to the join"
+    ).format(plans.choices_in_words(file.tables), MOST_CHOICES)

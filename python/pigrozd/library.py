@@ -1,20 +1,22 @@
-"""The shared library: found, loaded, and called through ctypes. include/pigrozd.h declares its one function."""
+"""The shared library: found, loaded, and called through ctypes. include/pigrozd.h declares its two functions, the join
+and the slow engine."""
 import array
 import ctypes
 import functools
 import os
-from typing import Any, NamedTuple, Tuple, Union
+from typing import Any, Dict, Literal, NamedTuple, Optional, Tuple, Union, cast
 
 from .fileformat import read
 from .limits import MOST_OUTPUT
+from .messages import InputError
 from .plans import width
 
 VARIABLE = "PIGROZD_LIBRARY"
 FILE_NAME = "libpigrozd.so"
 FIRST_OUTPUT = 16384  # words of output lent at first
 
-
 BytesLike = Union[bytes, bytearray, memoryview]
+Engine = Literal["join", "slow"]
 
 
 class LibraryError(OSError):
@@ -33,10 +35,40 @@ class Answer(NamedTuple):
     visits: int
 
 
+class SlowAnswer(NamedTuple):
+    """What the slow engine answers: the three numbers of struct pigrozd_slow_answer."""
+
+    number: int
+    detail: int
+    rows: int
+
+
 class AnswerStruct(ctypes.Structure):
     """struct pigrozd_answer of include/pigrozd.h."""
 
     _fields_ = [(name, ctypes.c_uint64) for name in Answer._fields]
+
+
+class SlowAnswerStruct(ctypes.Structure):
+    """struct pigrozd_slow_answer of include/pigrozd.h."""
+
+    _fields_ = [(name, ctypes.c_uint64) for name in SlowAnswer._fields]
+
+
+WORDS = [ctypes.POINTER(ctypes.c_uint32), ctypes.c_size_t]  # a buffer, and how many words it has
+FILE = [ctypes.c_char_p, ctypes.c_size_t]
+JOIN, SLOW = "pigrozd_join", "pigrozd_slow_join"
+FUNCTIONS: Dict[str, Tuple[Any, Any]] = {  # what each takes, and what it gives
+    JOIN: (FILE + WORDS + WORDS, AnswerStruct),
+    SLOW: (FILE + WORDS, SlowAnswerStruct),
+}
+
+
+def engine_named(given: Any, where: str) -> Engine:
+    """The engine that is given by its name; an error if there is no such engine."""
+    if not isinstance(given, str) or given not in ("join", "slow"):
+        raise InputError("%s is join or slow, not %.60r" % (where, given))
+    return cast(Engine, given)
 
 
 # ---- loading
@@ -56,23 +88,25 @@ def place() -> str:
 @functools.lru_cache(maxsize=None)
 def library() -> Any:
     """The loaded library."""
-    path = place()
     try:
-        loaded = ctypes.CDLL(path)
+        return ctypes.CDLL(place())
     except OSError as error:
         raise LibraryError(
             "the library cannot be loaded (make lib builds it, %s may name it): %s" % (VARIABLE, error)
         ) from None
-    words = ctypes.POINTER(ctypes.c_uint32)
-    try:
-        function = loaded.pigrozd_join
-    except AttributeError:
-        raise LibraryError(
-            "%s is not Pigrozd's library: it has no function pigrozd_join (%s names the library)" % (path, VARIABLE)
-        ) from None
-    function.argtypes = [ctypes.c_char_p, ctypes.c_size_t, words, ctypes.c_size_t, words, ctypes.c_size_t]
-    function.restype = AnswerStruct
-    return loaded
+
+
+@functools.lru_cache(maxsize=None)
+def function(name: str) -> Any:
+    """A function of the loaded library."""
+    loaded = library()
+    if not hasattr(loaded, name):
+        what = "an older library of Pigrozd's" if hasattr(loaded, JOIN) else "not Pigrozd's library"
+        told = "%s is %s: it has no function %s (%s names the library)"
+        raise LibraryError(told % (place(), what, name, VARIABLE))
+    found = getattr(loaded, name)
+    found.argtypes, found.restype = FUNCTIONS[name]
+    return found
 
 
 # ---- calling
@@ -108,8 +142,17 @@ def call(file: BytesLike, scratch: Any, output: Any) -> Answer:
     first, second = ctypes.addressof(scratch_words), ctypes.addressof(output_words)
     if first < second + 4 * output_count and second < first + 4 * scratch_count:
         raise ValueError("scratch and output overlap")
-    given = library().pigrozd_join(data, len(data), scratch_words, scratch_count, output_words, output_count)
+    given = function(JOIN)(data, len(data), scratch_words, scratch_count, output_words, output_count)
     return Answer(*(getattr(given, name) for name in Answer._fields))
+
+
+def call_slow(file: BytesLike, output: Any) -> SlowAnswer:
+    """One call of the slow engine, which needs no scratch and gives no counts: its SlowAnswer, refusals too.
+
+    It is given the bytes of a file and a writable buffer of 32-bit words, such as array.array('I')."""
+    data = bytes_of(file)
+    given = function(SLOW)(data, len(data), *lent(output))
+    return SlowAnswer(*(getattr(given, name) for name in SlowAnswer._fields))
 
 
 def zeros(count: int) -> "array.array[int]":
@@ -126,9 +169,21 @@ def call_with_enough(data: bytes) -> Tuple[Answer, "array.array[int]"]:
     if answer.number == 10:
         scratch = zeros(answer.detail)
         answer = call(data, scratch, output)
-    if answer.number == 11:
-        need = answer.detail * len(width(read(data).tables))
-        if need <= MOST_OUTPUT:
-            output = zeros(need)
-            answer = call(data, scratch, output)
-    return answer, output
+    longer = longer_output(data, answer)
+    return (call(data, scratch, longer), longer) if longer else (answer, output)
+
+
+def call_slow_with_enough(data: bytes) -> Tuple[SlowAnswer, "array.array[int]"]:
+    """The slow engine's answer to a file, and the output, which is as long as the answer 11 says that it must be."""
+    output = zeros(FIRST_OUTPUT)
+    answer = call_slow(data, output)
+    longer = longer_output(data, answer)
+    return (call_slow(data, longer), longer) if longer else (answer, output)
+
+
+def longer_output(data: bytes, answer: Union[Answer, SlowAnswer]) -> Optional["array.array[int]"]:
+    """An output that is long enough, if this answer says that another one was too short and there is one."""
+    if answer.number != 11:
+        return None
+    need = answer.detail * len(width(read(data).tables))
+    return zeros(need) if need <= MOST_OUTPUT else None

@@ -6,6 +6,7 @@ ATTRIBUTE_NUMBERS = 32  # attributes are numbered from 0 to 31
 MOST_ROWS = 4096  # of one table
 MOST_PLAN_BYTES = 255
 MOST_OUTPUT = 1048576  # words of output that the library uses at most
+MOST_CHOICES = 1048576  # choices of one row of each table that the slow engine goes through at most
 HIGHEST_COUNT = 4294967295  # results are counted up to this number, which stands for that many or more
 PROGRAM_BYTES = 65536  # the longest file that the program target/bin/pigrozd takes
 PROGRAM_WORDS = 16384  # what that program lends, of scratch and of output

@@ -4,6 +4,7 @@ finding.py has the plan that a join follows where it is given none.
 The text of a plan is the name of a table, or (LEFT RIGHT) with two plans in it: (frames (exposures readings)). A table
 may also be given by its number, and a name with blanks or brackets stands in double quotes.
 """
+import math
 import operator
 import re
 from dataclasses import dataclass
@@ -12,7 +13,7 @@ from typing import Any, Callable, Dict, Iterator, List, Mapping, NamedTuple, Opt
 from .answers import Refused
 from .limits import MOST_PLAN_BYTES, MOST_TABLES
 from .names import Names
-from .messages import InputError, listed, shortened
+from .messages import InputError, count, listed, shortened
 
 JOIN = 255  # the byte of a join; a left plan and a right plan follow
 HINT = "name tables that share attributes next to each other"  # what to do about answer 9
@@ -327,6 +328,17 @@ def words_needed(plan: Plan, tables: Sequence[Shape]) -> int:
     """The words of scratch that a join by this plan, which is well-behaved, needs. The tables' rows are known."""
     rows = [table.rows or 0 for table in tables]
     return 8 * sum(rows) + sum(rows[tables_of(join.left)[0]] for join in joins_of(plan))
+
+
+def choices(tables: Sequence[Shape]) -> int:
+    """In how many ways one row of each table can be chosen. The tables' rows are known."""
+    return math.prod(table.rows or 0 for table in tables)
+
+
+def choices_in_words(tables: Sequence[Shape]) -> str:
+    """That number, and how it comes about where there are several tables: 4 * 4 * 3 = 48 choices."""
+    rows = " * ".join("{:,}".format(table.rows or 0) for table in tables)
+    return (rows + " = " if len(tables) > 1 else "") + count(choices(tables), "choice")
 
 
 def work_bound(plan: Plan, tables: Sequence[Shape], out: int) -> Tuple[int, str]:

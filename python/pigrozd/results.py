@@ -25,19 +25,22 @@ class Result:
 
     A column is an array.array of 32-bit words; if a value was not recorded it is a list, with None for the value.
 
+    `engine` is "join", or "slow" if the slow engine gave the result. That one reports no counts: they are None then.
+
     `plan` is the text of the plan that the join followed, and `plan_bytes` has its bytes. `mended` says whether it is
     another one than was given, `found` whether none was given. The order of the rows is that of this plan."""
 
     columns: Dict[Key, Values]
     rows: int
-    entries: int
-    lookups: int
-    comparisons: int
-    visits: int
+    entries: Optional[int]
+    lookups: Optional[int]
+    comparisons: Optional[int]
+    visits: Optional[int]
     plan: str
     plan_bytes: bytes
     mended: bool
     found: bool = False
+    engine: str = "join"
 
     @property
     def names(self) -> Tuple[Key, ...]:
@@ -45,8 +48,10 @@ class Result:
         return tuple(self.columns)
 
     @property
-    def counts(self) -> Counts:
-        """The four counts together."""
+    def counts(self) -> Optional[Counts]:
+        """The four counts together, or None if the slow engine gave the result."""
+        if self.entries is None or self.lookups is None or self.comparisons is None or self.visits is None:
+            return None
         return Counts(self.entries, self.lookups, self.comparisons, self.visits)
 
     def __iter__(self) -> Iterator[Tuple[Optional[int], ...]]:
@@ -56,7 +61,8 @@ class Result:
         return self.rows
 
     def __repr__(self) -> str:
-        return "<Result: %s, names %s, %s>" % (count(self.rows, "row"), reprlib.repr(self.names), self.counts)
+        counts = self.counts or "no counts"
+        return "<Result: %s, names %s, %s>" % (count(self.rows, "row"), reprlib.repr(self.names), counts)
 
     def to_numpy(self) -> Any:
         """A NumPy structured array, one field of 32-bit words for each attribute. An attribute that has only a number

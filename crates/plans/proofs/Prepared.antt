@@ -8,7 +8,7 @@ use Rattle.semantics.specs.Files.{Table, tableWith, hasBit, read}
 use Rattle.theory.specs.Rules.{Fitting, WithinRules}
 use Rattle.semantics.specs.Plans.{Plan, tables, leftmost}
 use Rattle.semantics.specs.Shapes.{noTable, shapeOf, scratchNeed}
-use Rattle.semantics.specs.Outcome.{admitted, verdict}
+use Rattle.semantics.specs.Outcome.{refused, admitted, verdict}
 use Rattle.theory.proofs.Lists.{Each-map, Each-of-map}
 use Rattle.theory.proofs.Reading.{tables-few, tables-fit}
 use Rattle.theory.proofs.Rules.{verdict-cases, rules-tables, verdict-within, verdict-rules, tables-count, rows-count}
@@ -18,6 +18,7 @@ use Rattle.storage.specs.Layout.{storageSize, storage}
 use Rattle.storage.proofs.Sizes.{storage-le, storage-need}
 use Rattle.tables.specs.declared.Catalog.{Catalog}
 use Rattle.tables.specs.Catalogs.{catalogOf}
+use Rattle.tables.specs.PlanTables.{PlanTables}
 use Rattle.theory.proofs.Mendable.{small-each}
 use Rattle.tables.proofs.Catalogs.{mask-at, rows-at, start-at}
 use Rattle.plans.specs.declared.admission.Verdict.the-variants as decision
@@ -36,6 +37,15 @@ admitted-as bytes words a e h =
     (λ ts p v.
     let t : ts ≡ (read bytes) .tables = rules-tables bytes ts p ((verdict-rules bytes words ts p v) .0) in
     record { ts = ts; plan = p; admitted = record { accepted = v; catalog = ap (λ x. x .catalog) e ∙ ap catalogOf (sym t); schedule = ap (λ x. x .schedule) e ∙ ap scheduleFor v } })
+
+-- and a refusal is the verdict's
+pub refused-as : (bytes : List ℕ) (words : ℕ) (a : Decided) → a ≡ decidedOf bytes words → (n d : ℕ) → a .verdict ≡ decision.Refused n d → verdict bytes words ≡ refused n d
+unfolding decidedOf
+refused-as bytes words a e n d h =
+    let v : a .verdict ≡ verdictOf (verdict bytes words) = ap (λ x. x .verdict) e in
+    verdict-cases (verdict bytes words)
+    (λ m k w. let q : decision.Refused n d ≡ decision.Refused m k = sym h ∙ v ∙ ap verdictOf w in let x : n ≡ m = cc in let y : d ≡ k = cc in rw (x, y) w)
+    (λ ts p w. let q : decision.Refused n d ≡ decision.Admitted = sym h ∙ v ∙ ap verdictOf w in let x : _≡_ {A = ℕ} 0 1 = cc in absurd (omega arith))
 
 -- ---- the arrays
 field-length : {A : Type 0} (f : A → ℕ) (xs : List A) → length xs ≤ 16 → length (padded (map f xs)) ≡ 16
@@ -119,3 +129,9 @@ module _ (bytes : List ℕ) (words : ℕ) (ts : List Table) (p : Plan) (v : verd
 
 pub prepared : (bytes : List ℕ) (words : ℕ) (c : Catalog) (s : Schedule) (ts : List Table) (p : Plan) → AdmittedAs bytes words c s ts p → Prepared bytes words c s ts p
 prepared bytes words c s ts p a = rw (a .catalog, a .schedule) (prepared-of bytes words ts p (a .accepted))
+
+-- the tables of the plan, as the output's columns and the choices are made from them
+pub plan-tables : {bytes : List ℕ} {words : ℕ} {c : Catalog} {s : Schedule} {ts : List Table} {p : Plan} → AdmittedAs bytes words c s ts p → PlanTables bytes c (s .order) (s .tables) ts p
+plan-tables A =
+    let P = prepared _ _ _ _ _ _ A in
+    record { catalog-is = A .catalog; order-is = P .order; size = P .named; few = P .few; fitting = P .fits; rules = P .within }

@@ -1,4 +1,4 @@
-// What both programs print of a call of the join: document 01's lines. The text is gathered in 4,096 bytes, which are
+// What the programs print of a call: document 01's lines. The text is gathered in 4,096 bytes, which are
 // written out when they are full and at the end.
 //
 // No contract can say what is written. Each index is tested here, so nothing rests on what the join promises.
@@ -112,11 +112,16 @@ fn print_joined(file: &[u8], output: &[u32], numbers: Numbers) {
     write(&text, end);
 }
 
-// Prints a refusal. It is lent nothing and gives nothing back, so there is no outcome to state.
-pub fn refuse(number: u32, detail: usize) {
+// Prints one line, a word and numbers. It is lent nothing to change and gives nothing back, so there is no outcome to state.
+pub fn line(word: &[u8], numbers: &[u64]) {
     let mut text = [0u8; 4096];
-    let end = put_line(&mut text, 0, b"refused", &[wide(number), detail as u64]);
+    let end = put_line(&mut text, 0, word, numbers);
     write(&text, end);
+}
+
+// Prints a refusal.
+pub fn refuse(number: u32, detail: usize) {
+    line(b"refused", &[wide(number), detail as u64]);
 }
 
 fn numbers_of(answer: join::Answer) -> Numbers {

@@ -11,4 +11,5 @@ pub mod Totals
 pub mod Counts
 pub mod Bags
 pub mod Outcome
+pub mod Exhaustive
 pub mod Samples

@@ -7,3 +7,4 @@ pub mod ReadTo
 pub mod Columns
 pub mod Widths
 pub mod Cells
+pub mod PlanTables

@@ -1,15 +1,18 @@
 -- The attributes of several masks together, and their number in a file.
 use Prim.Native.Nat.{ℕ, _+_, _<_, _≤_}
 use mathlib.Core.Path.{_≡_, refl, sym, ap, _∙_}
-use mathlib.Core.List.{List, map}
+use mathlib.Core.Bool.{true, _||_}
+use mathlib.Core.List.{List, [], _∷_, map}
 use native.Mathlib.Omega.{arith}
 use lib.ListN.{length, take, getD, length-append, length-map}
 use lib.Bits.{bitOr}
 use lib.Seq.{take-at}
-use Rattle.semantics.specs.Lists.{any}
+use Rattle.theory.specs.Elements.{Each}
+use Rattle.theory.specs.Rules.{Fitting}
+use Rattle.semantics.specs.Lists.{any, filter}
 use Rattle.semantics.specs.Files.{Table, hasBit, arity, read}
 use Rattle.semantics.specs.Shapes.{attributes, width}
-use Rattle.theory.proofs.Lists.{each, filter-each, any-map}
+use Rattle.theory.proofs.Lists.{each, Each-map, filter-passes, filter-fewer, filter-each, any-map}
 use Rattle.theory.proofs.Reading.{tables-few}
 use Rattle.words.specs.Arrays.{padded}
 use Rattle.words.proofs.Arrays.{take-last}
@@ -49,3 +52,12 @@ module _ (file : List ℕ) (r : Contents) (e : r ≡ contentsOf file) where
   pub width-is : (mask : ℕ) → AttributesTogether (r .catalog .masks) (r .catalog .count) mask → arity mask ≡ fileWidth file
   unfolding catalogOf
   width-is mask p = attributes-width ((read file) .tables) mask (rw catalog-is at p)
+
+-- ---- every table has an attribute, so a result has a value
+pub first-width : (n : ℕ) (ts : List Table) → Each (Fitting n) ts → 0 < length ts → 0 < width ts
+unfolding width
+first-width n [] e h = absurd (omega arith)
+first-width n (t ∷ ts) e h =
+    let f : Each (λ a. (hasBit (t .mask) a || any (λ u. hasBit (u .mask) a) ts) ≡ true) (filter (hasBit (t .mask)) attributes) = Each-map (λ a. hasBit (t .mask) a ≡ true) (λ a. (hasBit (t .mask) a || any (λ u. hasBit (u .mask) a) ts) ≡ true)
+    (λ a q. ap (λ b. b || any (λ u. hasBit (u .mask) a) ts) q) (filter (hasBit (t .mask)) attributes) (filter-passes (hasBit (t .mask)) attributes) in
+    omega (arith, e .0 .some, arity-count (t .mask), filter-fewer (hasBit (t .mask)) (λ a. hasBit (t .mask) a || any (λ u. hasBit (u .mask) a) ts) attributes f)

@@ -1,2 +1,3 @@
 pub mod Catalogs
 pub mod Cells
+pub mod PlanTables

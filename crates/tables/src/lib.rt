@@ -1,10 +1,11 @@
 // The records of a file, read one after the other into a catalog: answers 1 to 6. Only `value` reads an attribute value.
 ghost use mathlib.Core.Path.{_≡_};
 ghost use mathlib.Core.Bool.{_&&_};
-ghost use Prim.Native.Nat.{_+_, _*_, _-_, _<_, _≤_};
+ghost use Prim.Native.Nat.{_+_, _*_, _-_, _<_, _≤_, min};
 ghost use lib.ListN.{length, drop, getD};
 ghost use lib.Dec.{eqb};
 ghost use Rattle.semantics.specs.Files.{wordAt, tableWith, columnStart, nextTable, planRecord};
+ghost use Rattle.semantics.specs.Shapes.{outputFits};
 ghost use Rattle.theory.specs.Rules.{Fitting};
 ghost use Rattle.tables.specs.Catalogs.{endOf, tableOf, recordOf, contentsOf, fileWidth, AttributesTogether};
 
@@ -158,6 +159,21 @@ pub fn width(file: &[u8]) -> usize
     let catalog = contents.catalog;
     let masks = catalog.masks;
     words::ones(attributes_of(&masks, catalog.count)) as usize
+}
+
+// The words of an output that are used at most.
+fn room(words: usize) -> usize
+    ensures { λ r. ⌜ r ≡ min words 1048576 ⌝ }
+{
+    if words < 1048576 { words } else { 1048576 }
+}
+
+// The rows of that many values that an output of that many words fits.
+pub fn rows_fitting(words: usize, width: usize) -> usize
+    requires { ⌜ 0 < width ⌝ }
+    ensures { λ r. ⌜ r ≡ outputFits width words ⌝ }
+{
+    room(words) / width
 }
 
 // The offset of an attribute's column in the file. The product is one of 32 bits: a column lies at most 131,072 bytes behind the

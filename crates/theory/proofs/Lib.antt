@@ -40,6 +40,9 @@ pub mod SentAnswers
 pub mod PlanAnswers
 pub mod Output
 pub mod Answers
+pub mod ChoiceNumbers
+pub mod RowProducts
+pub mod Engines
 pub mod Bags
 pub mod MendedBags
 pub mod FileBags

@@ -7,4 +7,6 @@ pub mod Selections
 pub mod Orders
 pub mod Rows
 pub mod Enumeration
+pub mod ChoiceNumbers
 pub mod Details
+pub mod Engines

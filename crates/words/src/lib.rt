@@ -2,7 +2,8 @@
 ghost use mathlib.Core.Path.{_≡_};
 ghost use Prim.Native.Nat.{_+_, _*_, _<_, _≤_};
 ghost use lib.ListN.{length};
-ghost use Rattle.semantics.specs.Files.{wordAt, onesBelow, arity};
+ghost use Rattle.semantics.specs.Lists.{same};
+ghost use Rattle.semantics.specs.Files.{wordAt, hasBit, onesBelow, arity};
 ghost use Rattle.semantics.specs.Totals.{held};
 ghost use Rattle.semantics.specs.Outcome.{zeros};
 
@@ -34,6 +35,14 @@ pub fn word(s: &[u8], at: usize) -> u32
     ensures { λ r. ⌜ r ≡ wordAt (now (s .entry)) at ⌝ }
 {
     wide(s[at]) + 256 * wide(s[at + 1]) + 65536 * wide(s[at + 2]) + 16777216 * wide(s[at + 3])
+}
+
+// Whether a table with this mask has the attribute.
+pub fn has_bit(mask: u32, bit: u32) -> bool
+    requires { ⌜ bit < 32 ⌝ }
+    ensures { λ r. ⌜ r ≡ hasBit mask bit ⌝ }
+{
+    (mask >> bit) % 2 == 1
 }
 
 // The ones of the mask below a bit: the place of that attribute's column.
@@ -101,4 +110,21 @@ pub fn clear(words: &mut [u32])
         words[i] = 0;
         i += 1;
     }
+}
+
+// Whether both have the same words, in the same places.
+pub fn same_words(a: &[u32], b: &[u32]) -> bool
+    ensures { λ r. ⌜ r ≡ same (now (a .entry)) (now (b .entry)) ⌝ }
+{
+    if a.len() != b.len() {
+        return false;
+    }
+    let mut i = 0;
+    while i < a.len() {
+        if a[i] != b[i] {
+            return false;
+        }
+        i += 1;
+    }
+    true
 }

@@ -50,16 +50,21 @@ slice-relend-prefix-join-with c = search needs
 
 slice-aggregate-join-with : tie.Need-slice-aggregate-join-with
 slice-aggregate-join-with c =
-    let s = c .before .before .before .before .before .before in
-    sym (length-take-le (s .word-index .result) (s .before .before .before .before .before .before .args .scratch .now) (omega arith))
+    sym (length-take-le (c .before .before .before .before .before .before .before .word-index .result) (c .before .before .before .before .before .before .before .before .before .before .before .before .before .before .args .scratch .now) (omega (arith, ltb-false)))
 
 slice-relend-prefix-join-with-2 : tie.Need-slice-relend-prefix-join-with-2
 slice-relend-prefix-join-with-2 c = search needs
 
 slice-aggregate-join-with-2 : tie.Need-slice-aggregate-join-with-2
 slice-aggregate-join-with-2 c =
-    let s = c .before .before .before .before .before in
-    sym (length-take-le (s .word-index2 .result) (s .before .before .before .before .before .before .before .before .args .output .now) (omega (arith, ltb-false)))
+    sym (length-take-le (c .before .before .before .before .before .before .word-index2 .result) (c .before .before .before .before .before .before .before .before .before .before .before .before .before .before .before .args .joined .now) (omega (arith, ltb-false)))
+
+slice-relend-prefix-join-with-3 : tie.Need-slice-relend-prefix-join-with-3
+slice-relend-prefix-join-with-3 c = search needs
+
+slice-aggregate-join-with-3 : tie.Need-slice-aggregate-join-with-3
+slice-aggregate-join-with-3 c =
+    sym (length-take-le (c .before .before .before .before .before .before .before .word-index2 .result) (c .before .before .before .before .before .before .before .before .before .before .before .before .before .before .before .before .args .slow .now) (omega (arith, ltb-false)))
 
 join-with-requires : tie.Need-join-with-requires
 join-with-requires c κs = search needs
@@ -69,6 +74,9 @@ same-length c = search needs
 
 same-length-2 : tie.Need-same-length-2
 same-length-2 c = search needs
+
+same-length-3 : tie.Need-same-length-3
+same-length-3 c = search needs
 
 returns-3 : tie.Need-returns-3
 returns-3 c = search needs
@@ -94,7 +102,10 @@ join-sample-spec =
     slice-aggregate-join-with
     slice-relend-prefix-join-with-2
     slice-aggregate-join-with-2
+    slice-relend-prefix-join-with-3
+    slice-aggregate-join-with-3
     join-with-requires
     same-length
     same-length-2
+    same-length-3
     returns-3)
