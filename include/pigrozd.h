@@ -13,8 +13,8 @@
  * Nothing is asked of what they hold. Both functions call nothing but memcpy and memset and keep nothing, so that calls with
  * buffers of their own may run side by side.
  *
- * What they do is proved (crates/capi/specs/Calls.antt, crates/capi_slow/specs/Calls.antt). docs/SPECIFICATION.md says it in words, docs/answers/README.md says
- * what each answer means and what to look at, docs/TRUST.md what is assumed.
+ * What they do is proved (Calls.antt of crates/capi/specs and of crates/capi_slow/specs). docs/SPECIFICATION.md says it in words,
+ * docs/answers/README.md says what each answer means and what to look at, docs/TRUST.md what is assumed.
  */
 #ifndef PIGROZD_H
 #define PIGROZD_H

@@ -477,6 +477,18 @@ class Documents(Engine, Folder):
         self.assertEqual(out.getvalue(), "")
 
 
+class Objects(Folder):
+    def test_a_program_with_the_join_alone(self):
+        """It has nothing of the slow engine in it: each function is an object of its own in the library."""
+        text = '#include "pigrozd.h"\nvoid *volatile f = (void *)pigrozd_join;\nint main(void) { return !f; }\n'
+        source = self.write("f.c", text)
+        compiler, library = os.environ.get("CC", "cc"), os.path.join(TOP, "target", "lib", "libpigrozd.a")
+        subprocess.run([compiler, "-I", os.path.join(TOP, "include"), "-o", self.at("f"), source, library], check=True)
+        named = subprocess.run(["nm", self.at("f")], stdout=subprocess.PIPE, check=True).stdout.decode()
+        self.assertIn(" T pigrozd_join\n", named)
+        self.assertNotIn("slow", named)
+
+
 class Environment(unittest.TestCase):
     def test_missing_library(self):
         code = (

@@ -423,7 +423,7 @@ fn nothing_shared(k: usize, n: usize, seed: u64) -> Input {
     Input::without_plan((0..k as u32).map(|i| table(vec![(i, r.any(n))])).collect())
 }
 
-/// A shape with a number of rows in each table, and the files of it: one for each seed.
+/// A shape with a number of rows, in each table or as the shape says, and the files of it: one for each seed.
 pub struct Case {
     pub shape: String,
     pub rows: usize,
@@ -439,8 +439,8 @@ impl Case {
         (self.make)(1)
     }
 
-    /// As many files as have 4,096 rows a table together. Run in turn, they leave a machine's caches and its prediction of
-    /// branches as much to forget at few rows as at many.
+    /// As many files as have 4,096 rows a table together, but at most 64. Run in turn, they leave a machine's caches and its
+    /// prediction of branches as much to forget at few rows as at many.
     pub fn files(&self) -> Vec<Input> {
         (1..=(4096 / self.rows.max(1)).min(64) as u64).map(|seed| (self.make)(seed)).collect()
     }

@@ -1,4 +1,4 @@
-//! The proved join and the slow engine, through their C interface (include/pigrozd.h).
+//! The library's two functions, the join and the slow engine, through their C interface (include/pigrozd.h).
 
 #[repr(C)]
 #[derive(Clone, Copy, PartialEq, Eq, Debug, Default)]
@@ -24,7 +24,7 @@ impl Answer {
 }
 
 #[repr(C)]
-#[derive(Clone, Copy, PartialEq, Eq, Debug, Default)]
+#[derive(Clone, Copy, PartialEq, Eq, Debug)]
 pub struct SlowAnswer {
     pub number: u64,
     pub detail: u64,

@@ -1,5 +1,5 @@
 //! The bench: the proved join beside an unproved twin, a HashMap join, SQLite and the library's slow engine, on the same files in
-//! one run.
+//! one run. Where the bench says library, it means the join, pigrozd_join.
 //!
 //!     bench [NAME]              the tables: times as ratios, growth, instructions; what mending a plan and finding one cost; from
 //!                               which size on the join costs less than the slow engine; of the files whose names have NAME in them
@@ -76,24 +76,28 @@ fn check(name: &str, input: &Input, queries: [&mut Query; 2]) -> Vec<u32> {
     if let Some(partner) = input.partner() {
         check_partner(name, &partner, &answer, &one.output);
     }
-    let choices = choices(&input.tables);
-    slow::check(&name, &input.file, choices, (&answer, &one.output), &mut vec![0; OUTPUT_WORDS]);
+    slow::check(name, &input.file, choices(&input.tables), (&answer, &one.output), &mut vec![0; OUTPUT_WORDS]);
     let values = one.output[..answer.rows as usize * input.width].to_vec();
     let expected = summary(&values, input.width);
     assert_eq!(expected, summary(&hashmap::join(&input.file, input.given()), input.width), "{name}: HashMap");
     for query in queries {
         assert_eq!(expected, summary(&query.run(), input.width), "{name}: SQLite");
     }
-    // A word of scratch less, or an output that is too short, is refused in the same way.
+    check_short(name, input, values.len(), [one, two]);
+    values
+}
+
+/// With a word of scratch less the twin must answer as the library does; with a word of output less than the results have, the slow
+/// engine too. Both outputs hold the results before.
+fn check_short(name: &str, input: &Input, words: usize, [mut one, mut two]: [Buffers; 2]) {
     if let Some(scratch) = one.scratch.get_mut(1..) {
         assert_eq!(library::join(&input.file, scratch, &mut one.output), twin::twin_join(&input.file, scratch, &mut one.output));
     }
-    let short = &mut one.output[..values.len().saturating_sub(1)];
+    let short = &mut one.output[..words.saturating_sub(1)];
     let other = &mut two.output[..short.len()];
-    let refused = library::join(&input.file, &mut two.scratch, short);
-    assert_eq!(refused, twin::twin_join(&input.file, &mut two.scratch, other));
-    slow::check(&name, &input.file, choices, (&refused, short), other);
-    values
+    let answer = library::join(&input.file, &mut two.scratch, short);
+    assert_eq!(answer, twin::twin_join(&input.file, &mut two.scratch, other));
+    slow::check(name, &input.file, choices(&input.tables), (&answer, short), other);
 }
 
 /// A file whose plan is mended or found must give what the file with that plan gives, in every word and count.
@@ -121,7 +125,7 @@ fn check_damaged(file: &[u8]) {
         let (mut t, mut p, mut q) = (s, o, o);
         let answer = library::join(bytes, &mut s, &mut o);
         assert_eq!((answer, s, o), (twin::twin_join(bytes, &mut t, &mut p), t, p), "{bytes:?}");
-        slow::check(&bytes, bytes, 0, (&answer, &o), &mut q);
+        slow::check(bytes, bytes, 0, (&answer, &o), &mut q);
     };
     for end in 0..file.len() {
         agree(&file[..end]);
@@ -171,9 +175,9 @@ fn check_small(tables: &[Table], code: &[u8]) -> (Answer, Option<SlowAnswer>) {
     let (mut t, mut p, mut q) = (s, o, o);
     let answer = library::join(&file, &mut s, &mut o);
     assert_eq!((answer, s, o), (twin::twin_join(&file, &mut t, &mut p), t, p), "{file:?}");
-    let choices = choices(tables);
-    let tried = choices <= SMALL_CHOICES || slow::too_many(choices);
-    (answer, tried.then(|| slow::check(&file, &file, choices, (&answer, &o), &mut q)).flatten())
+    let count = choices(tables);
+    let tried = count <= SMALL_CHOICES || slow::too_many(count);
+    (answer, if tried { slow::check(&file, &file, count, (&answer, &o), &mut q) } else { None })
 }
 
 /// A file's results' values, by `check` with databases of its own.

@@ -14,10 +14,11 @@ pub fn too_many(choices: u64) -> bool {
     choices > MOST_CHOICES
 }
 
-/// The slow engine must say what the join says, and leave the output as the join does, or say 15 where there are too many choices.
-/// `own` is an output as the join's was before. Nothing is compared where the join says 10.
+/// The slow engine must say what the join says, and leave the output as the join does; or, where a file that is not refused before
+/// has too many choices, say 15. `own` is an output as the join's was before. Nothing is compared, and there is no answer, where the
+/// join says 10 and there are not too many choices.
 pub fn check(
-    name: &dyn Debug,
+    name: impl Debug,
     file: &[u8],
     choices: u64,
     (answer, joined): (&Answer, &[u32]),
@@ -36,14 +37,14 @@ pub fn check(
 }
 
 /// To a file with too many choices the slow engine must say 15 and leave the output as it was.
-fn check_too_many(name: &dyn Debug, file: &[u8]) -> SlowAnswer {
+fn check_too_many(name: impl Debug, file: &[u8]) -> SlowAnswer {
     let mut output = [7; 16];
     let slow = library::slow_join(file, &mut output);
     assert_eq!((slow, output), (Answer::refused(15, 0).without_counts(), [7; 16]), "{name:?}: slow engine, too many choices");
     slow
 }
 
-/// On how many files the slow engine agrees, and how many have too many choices.
+/// On how many files the slow engine agrees with the join, and how many have too many choices, in words.
 pub fn agreed(answers: &[SlowAnswer]) -> String {
     let too_many = answers.iter().filter(|a| a.number == 15).count();
     format!("  the slow engine agrees on {} of these; {too_many} refused by answer 15", answers.len() - too_many)
@@ -112,23 +113,23 @@ fn measure(case: &Case) -> [f64; 2] {
 
 /// Prints where the join becomes the cheaper one, in files of one shape.
 fn print_turn(costs: &[Cost]) {
-    let mut line = format!("{}: the join takes less time {}", costs[0].case.shape, turn(costs, |c| c.time));
-    if costs[0].instructions.is_some() {
-        line += &format!(", fewer instructions {}", turn(costs, |c| c.instructions.unwrap_or(0.0)));
-    }
-    println!("{line}");
+    let sizes: Vec<usize> = costs.iter().map(|c| c.case.rows).collect();
+    let times: Vec<f64> = costs.iter().map(|c| c.time).collect();
+    let instructions: Option<Vec<f64>> = costs.iter().map(|c| c.instructions).collect();
+    let fewer = instructions.map_or(String::new(), |i| format!(", fewer instructions {}", turn(&sizes, &i)));
+    println!("{}: the join takes less time {}{fewer}", costs[0].case.shape, turn(&sizes, &times));
 }
 
-/// The first size from which on the join is the cheaper one at all sizes that were tried.
-fn turn(costs: &[Cost], ratio: impl Fn(&Cost) -> f64) -> String {
-    let Some(last) = costs.iter().rposition(|c| ratio(c) <= 1.0) else { return "at all of these sizes".into() };
-    costs.get(last + 1).map_or("at none of these sizes".into(), |c| format!("from x {} on", c.case.rows))
+/// In words, the first size from which on the join is the cheaper one at all sizes that were tried: the slow engine's ratio is over 1.
+fn turn(sizes: &[usize], ratios: &[f64]) -> String {
+    let Some(last) = ratios.iter().rposition(|&r| r <= 1.0) else { return "at all of these sizes".into() };
+    sizes.get(last + 1).map_or("at none from which it stays so".into(), |n| format!("from x {n} on"))
 }
 
 #[cfg(test)]
 mod tests {
     use super::*;
-    use crate::inputs::{few_choices, table as of_columns};
+    use crate::inputs::table as of_columns;
 
     /// A table of no rows leaves no choice, however many rows the others have.
     #[test]
@@ -144,15 +145,9 @@ mod tests {
     /// A size counts only if the join is the cheaper one at all larger ones too.
     #[test]
     fn where_it_turns() {
-        let cases = few_choices();
-        let costs = |ratios: &[f64]| {
-            let cost = |(case, &time)| Cost { case, time, instructions: None };
-            turn(&cases.iter().zip(ratios).map(cost).collect::<Vec<_>>(), |c| c.time)
-        };
-        let from = |i: usize| format!("from x {} on", cases[i].rows);
-        assert_eq!(costs(&[2.0, 3.0]), "at all of these sizes");
-        assert_eq!(costs(&[0.5, 1.0, 2.0]), from(2));
-        assert_eq!(costs(&[0.5, 1.5, 0.9, 1.1, 2.0]), from(3));
-        assert_eq!(costs(&[2.0, 0.5]), "at none of these sizes");
+        assert_eq!(turn(&[0, 1], &[2.0, 3.0]), "at all of these sizes");
+        assert_eq!(turn(&[0, 1, 4], &[0.5, 1.0, 2.0]), "from x 4 on");
+        assert_eq!(turn(&[0, 1, 4, 8, 32], &[0.5, 1.5, 0.9, 1.1, 2.0]), "from x 8 on");
+        assert_eq!(turn(&[0, 1], &[2.0, 0.5]), "at none from which it stays so");
     }
 }
