@@ -1,5 +1,5 @@
 -- The comparison of two answers, step by step; and why both engines never differ.
-use mathlib.Core.Path.{_≡_, refl, sym, ap, ap₂, _∙_}
+use mathlib.Core.Path.{_≡_, sym, ap, ap₂, _∙_}
 use mathlib.Core.Bool.{Bool, true, false, not, _&&_, _||_}
 use mathlib.Core.List.{List}
 use Prim.Native.Nat.{ℕ}
@@ -15,7 +15,6 @@ use Rattle.capi.specs.Calls.{Calls}
 use Rattle.capi_slow.specs.Calls.{SlowCalls}
 use Rattle.accept.specs.declared.comparing.Comparison.{Comparison}
 use Rattle.accept.specs.declared.comparing.Comparison.the-variants as comparison
-use Rattle.accept.specs.declared.comparing.Compared.{Compared}
 use Rattle.accept.specs.Comparing.{sameNumbers, comparisonOf, Compares}
 use Rattle.accept.proofs.Engines.{same-numbers}
 
