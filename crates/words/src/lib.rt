@@ -1,4 +1,4 @@
-// Words of a byte slice, bits of a mask, sums and products held at the limit, and words zeroed.
+// Words of a byte slice, bits of a mask, sums and products held at the limit, words zeroed and compared.
 ghost use mathlib.Core.Path.{_≡_};
 ghost use Prim.Native.Nat.{_+_, _*_, _<_, _≤_};
 ghost use lib.ListN.{length};
