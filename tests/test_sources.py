@@ -1,4 +1,4 @@
-"""Tests the layout of the crates that CONTRIBUTING.md asks for: lines, functions, imports."""
+"""Tests the layout of the crates that CONTRIBUTING.md asks for: lines, functions, edits, imports."""
 import glob
 import re
 import unittest
@@ -36,6 +36,15 @@ class Sources(unittest.TestCase):
                     self.assertLessEqual(len(re.findall(r"\w+: ", found[2])), 9)
                     body = re.split(r"\n\{\n|\{\n", text[found.end() :], maxsplit=1)[-1]
                     self.assertLess(body[: body.index("\n}")].count("\n") + 1, 40)
+
+    def test_edits(self):
+        """The old text of a must-fail edit stands in its file just once."""
+        for file, text in files("must-fail/*.edit"):
+            edited = re.search("^file: (.*)$", text, re.M)[1]
+            with open(path("crates", file.split("/must-fail/")[0], edited), encoding="utf-8") as f:
+                source = f.read()
+            for old in re.findall("^old: (.*)$", text, re.M):
+                self.assertEqual(source.count(old), 1, file)
 
     def test_imports(self):
         for file, text in files("src/**/*.rt", "specs/**/*.antt", "proofs/**/*.antt"):

@@ -119,12 +119,12 @@ pub fn same_words(a: &[u32], b: &[u32]) -> bool
     if a.len() != b.len() {
         return false;
     }
-    let mut i = 0;
-    while i < a.len() {
-        if a[i] != b[i] {
+    let mut j = 0;
+    while j < a.len() {
+        if a[j] != b[j] {
             return false;
         }
-        i += 1;
+        j += 1;
     }
     true
 }

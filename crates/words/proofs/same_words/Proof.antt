@@ -7,10 +7,10 @@ use Rattle.words.proofs.same_words.Statement.{statement}
 use Rattle.words.proofs.same_words.Tie as tie
 
 abbrev Inv-loop : tie.InvT-loop
-Inv-loop a b i₀ i = SameTo a b i
+Inv-loop a b j₀ j = SameTo a b j
 
 abbrev μ-loop : tie.MeasureT-loop
-μ-loop a b i₀ i = length a - i
+μ-loop a b j₀ j = length a - j
 
 returns : tie.Need-returns Inv-loop μ-loop
 returns c = let o = c .before in other-length (o .args .a .now) (o .args .b .now) (c .if1 .taken)
@@ -31,10 +31,10 @@ shared-slice-read-if2-2 : tie.Need-shared-slice-read-if2-2 Inv-loop μ-loop
 shared-slice-read-if2-2 c = search needs
 
 returns-2 : tie.Need-returns-2 Inv-loop μ-loop
-returns-2 c = let o = c .before .before .before .before .before .before in other-word (o .args .a .now) (o .args .b .now) (c .before .before .before .before .loop .i) (c .if2 .taken)
+returns-2 c = let o = c .before .before .before .before .before .before in other-word (o .args .a .now) (o .args .b .now) (c .before .before .before .before .loop .j) (c .if2 .taken)
 
-add-i : tie.Need-add-i Inv-loop μ-loop
-add-i c = search needs
+add-j : tie.Need-add-j Inv-loop μ-loop
+add-j c = search needs
 
 loop-less : tie.Need-loop-less Inv-loop μ-loop
 loop-less c = search needs
@@ -58,7 +58,7 @@ same-words-spec =
     mul-if2-2
     shared-slice-read-if2-2
     returns-2
-    add-i
+    add-j
     loop-less
     loop-again
     returns-3)
