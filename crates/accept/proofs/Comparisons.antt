@@ -73,7 +73,7 @@ module _ (a : Given) (b : SlowGiven) where
           pub words-differ : q ≡ false → comparison.Differ ≡ comparisonOf a b one other
           words-differ g = sym (neither ∙ ap₂ verdict (sym e ∙ not-false p h) (sym f ∙ g))
 
-        pub both-same : sameNumbers a b ≡ true → same one other ≡ true → comparisonOf a b one other ≡ comparison.Same
+        both-same : sameNumbers a b ≡ true → same one other ≡ true → comparisonOf a b one other ≡ comparison.Same
         both-same e f = neither ∙ ap₂ verdict e f
 
   -- ---- request U5's theorem: neither 10 nor 15 leaves both the same

@@ -5,7 +5,7 @@ use mathlib.Core.List.{List, [], _∷_, _++_, map, append-nil}
 use Prim.Native.Nat.{ℕ, zero, suc, _+_, _-_, _≤_, _<_}
 use native.Mathlib.Omega.{arith}
 use native.Mathlib.Nat.{zero-add, add-zero}
-use lib.ListN.{length, getD}
+use lib.ListN.{length, getD, length-map}
 use lib.Dec.{eqb}
 use borrow.Author.Tests.{eqb-true, eqb-false, ne-eqb}
 use Rattle.theory.specs.Elements.{oneIf, Each, onlyIf, Rising}
@@ -16,6 +16,9 @@ use Rattle.theory.proofs.Lists.{Each-map, Each-filter, filter-append, g
 pub length-from : (i n : ℕ) → length (from i n) ≡ n
 length-from i zero = refl
 length-from i (suc n) = ap suc (length-from (suc i) n)
+
+pub length-map-from : {B : Type 0} (f : ℕ → B) (i n : ℕ) → length (map f (from i n)) ≡ n
+length-map-from f i n = length-map (from i n) f ∙ length-from i n
 
 pub from-lt : (i n : ℕ) → Each (λ y. (i ≤ y) × (y < i + n)) (from i n)
 from-lt i zero = tt
@@ -40,8 +43,11 @@ from-split i (suc n) m =
     ap (from i) e ∙ ap (λ l. i ∷ l) (from-split (suc i) n m ∙ ap (λ j. from (suc i) n ++ from j m) z)
 
 -- one number more
+pub from-last : (i : ℕ) → from 0 (i + 1) ≡ from 0 i ++ (i ∷ [])
+from-last i = from-split 0 i 1 ∙ ap (λ j. from 0 i ++ (j ∷ [])) (zero-add i)
+
 pub filter-last : (q : ℕ → Bool) (i : ℕ) → filter q (from 0 (i + 1)) ≡ filter q (from 0 i) ++ filter q (i ∷ [])
-filter-last q i = ap (filter q) (from-split 0 i 1) ∙ filter-append q (from 0 i) ((0 + i) ∷ []) ∙ ap (λ j. filter q (from 0 i) ++ filter q (j ∷ [])) (zero-add i)
+filter-last q i = ap (filter q) (from-last i) ∙ filter-append q (from 0 i) (i ∷ [])
 
 -- the numbers below n that pass a test, from i on: one more, none from n on, all from 0 on
 pub passing-step : (q : ℕ → Bool) (i n : ℕ) → i < n → filter q (from i (n - i)) ≡ consIf (q i) i (filter q (from (suc i) (n - suc i)))
