@@ -30,16 +30,18 @@ SONAME := libpigrozd.so.$(firstword $(subst ., ,$(VERSION)))
 
 lib: say-first $(LIB)/libpigrozd.a $(LIB)/libpigrozd.so $(LIB)/$(SONAME)
 
-# Each function is an object of its own: a program that calls the join alone has nothing of the slow engine in it.
+# The join, the slow engine, and the two functions for one result are an object each: a program that calls the join alone has nothing
+# of the others in it.
 OBJECTS = target/staticlib
 
 $(LIB)/libpigrozd.a: crates.txt $(SOURCES)
 	rt staticlib capi
 	rt staticlib capi_slow
+	rt staticlib capi_access
 	mkdir -p $(LIB)
-	cd $(OBJECTS) && $(AR) x libcapi.a && $(AR) x libcapi_slow.a
+	cd $(OBJECTS) && $(AR) x libcapi.a && $(AR) x libcapi_slow.a && $(AR) x libcapi_access.a
 	rm -f $@
-	$(AR) rcs $@ $(OBJECTS)/capi.o $(OBJECTS)/capi_slow.o
+	$(AR) rcs $@ $(OBJECTS)/capi.o $(OBJECTS)/capi_slow.o $(OBJECTS)/capi_access.o
 
 $(LIB)/libpigrozd.so: $(LIB)/libpigrozd.a include/pigrozd.h
 	$(CC) -shared -Wl,-soname,$(SONAME) -Wl,-z,defs -o $@ -Wl,--whole-archive $< -Wl,--no-whole-archive
@@ -66,21 +68,23 @@ check-c: lib target/bin/pigrozd target/bin/accept
 	sh tests/test_join_file.sh $(EXAMPLES)/join_file
 	$(CC) $(STRICT) -Iinclude -o $(EXAMPLES)/accept_file examples/c/accept_file.c $(LIB)/libpigrozd.a
 	sh tests/test_accept.sh $(EXAMPLES)/accept_file
+	$(CC) $(STRICT) -Iinclude -o $(EXAMPLES)/view_page examples/c/view_page.c $(LIB)/libpigrozd.a
+	sh tests/test_view_page.sh $(EXAMPLES)/view_page $(EXAMPLES)/join_file
 	MAKE='$(MAKE)' CC='$(CC)' sh tests/test_install.sh
 	sh tests/test_pages.sh
 
-# The Python package: the library through it, the slow engine beside the join, the totals that the join forms and their
-# multiplications, plans mended and found by the reference and by the package, tables and values, those that were not recorded, the
-# file format, pip. Then its commands. What needs NumPy or pandas is skipped, in words, where they are not there;
-# make check-users PYTHON=/usr/bin/python3 names another.
+# The Python package: the library through it, the slow engine beside the join, one result by its number and back, the totals that the
+# join forms and their multiplications, plans mended and found by the reference and by the package, tables and values, those that were
+# not recorded, the file format, pip. Then its commands, the viewer on a terminal among them. What needs NumPy or pandas is skipped, in
+# words, where they are not there; make check-users PYTHON=/usr/bin/python3 names another.
 PYTHON = python3
 
 check-python: lib
-	$(PYTHON) tests/run.py test_library test_slow test_products test_mending test_mended_plans test_finding test_found_plans test_python \
-	    test_not_recorded test_formats test_install
+	$(PYTHON) tests/run.py test_library test_slow test_access test_products test_mending test_mended_plans test_finding test_found_plans \
+	    test_python test_not_recorded test_formats test_install
 
 check-commands: lib
-	$(PYTHON) tests/run.py test_commands test_join test_damaged test_documents test_sources
+	$(PYTHON) tests/run.py test_commands test_join test_view test_damaged test_documents test_sources
 
 # What the prover said of the must-fail edits in the last run of the gate: each is to be refused for what it says.
 check-edits:
@@ -117,7 +121,8 @@ INSTALL = install
 SHARED = libpigrozd.so.$(VERSION)
 INSTALLED = $(INCLUDEDIR)/pigrozd.h $(LIBDIR)/libpigrozd.a $(LIBDIR)/$(SHARED) $(LIBDIR)/$(SONAME) $(LIBDIR)/libpigrozd.so \
     $(PKGCONFIGDIR)/pigrozd.pc $(BINDIR)/pigrozd-file $(BINDIR)/pigrozd-accept $(MANDIR)/man1/pigrozd-file.1 \
-    $(MANDIR)/man1/pigrozd-accept.1 $(MANDIR)/man3/pigrozd_join.3 $(MANDIR)/man3/pigrozd_slow_join.3
+    $(MANDIR)/man1/pigrozd-accept.1 $(MANDIR)/man3/pigrozd_join.3 $(MANDIR)/man3/pigrozd_slow_join.3 \
+    $(MANDIR)/man3/pigrozd_result_at.3 $(MANDIR)/man3/pigrozd_number_of.3
 
 # a path of pkg-config's file, as one below ${prefix} where it is
 below = $(patsubst $(PREFIX)/%,$${prefix}/%,$(1))
@@ -144,7 +149,8 @@ install: lib target/bin/pigrozd target/bin/accept
 	$(INSTALL) -m 755 target/bin/pigrozd $(DESTDIR)$(BINDIR)/pigrozd-file
 	$(INSTALL) -m 755 target/bin/accept $(DESTDIR)$(BINDIR)/pigrozd-accept
 	$(INSTALL) -m 644 man/pigrozd-file.1 man/pigrozd-accept.1 $(DESTDIR)$(MANDIR)/man1
-	$(INSTALL) -m 644 man/pigrozd_join.3 man/pigrozd_slow_join.3 $(DESTDIR)$(MANDIR)/man3
+	$(INSTALL) -m 644 man/pigrozd_join.3 man/pigrozd_slow_join.3 man/pigrozd_result_at.3 man/pigrozd_number_of.3 \
+	    $(DESTDIR)$(MANDIR)/man3
 
 uninstall:
 	rm -f $(addprefix $(DESTDIR),$(INSTALLED))

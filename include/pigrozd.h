@@ -1,20 +1,22 @@
 /* Pigrozd: joins the tables of a file by its plan, or by one that it finds. For x86-64 Linux; numbers in a file are
  * little-endian. pigrozd_join is the join. pigrozd_slow_join, for acceptance days, goes through every choice of rows and gives
- * the same.
+ * the same. pigrozd_result_at gives one result by its number, and pigrozd_number_of the number of a result by its rows; neither
+ * writes out the others.
  *
  * What the caller owes:
  * - No pointer is NULL, also where the length beside it is 0.
- * - file has file_bytes readable bytes; scratch and output have scratch_words and output_words writable words of 32 bits,
- *   aligned to 4 bytes.
- * - file_bytes is at most PIGROZD_MOST_BYTES, scratch_words and output_words are at most PIGROZD_MOST_WORDS: no buffer has
- *   2^63 bytes or more. (No memory of such a size can be had on x86-64; a length that was worked out wrong can be one.)
+ * - file has file_bytes readable bytes, and rows has rows_count readable words; scratch, output and row have scratch_words,
+ *   output_words and row_words writable words. Words are of 32 bits, aligned to 4 bytes.
+ * - file_bytes is at most PIGROZD_MOST_BYTES, and each number of words is at most PIGROZD_MOST_WORDS: no buffer has 2^63 bytes
+ *   or more. (No memory of such a size can be had on x86-64; a length that was worked out wrong can be one.)
  * - The buffers of a call do not overlap, and nothing else writes to them during the call.
  * - 64 KB of stack are free (measured: 30 KB at most, by the slow engine for a plan of 255 bytes FF).
- * Nothing is asked of what they hold. Both functions call nothing but memcpy and memset and keep nothing, so that calls with
+ * Nothing is asked of what they hold. The functions call nothing but memcpy and memset and keep nothing, so that calls with
  * buffers of their own may run side by side.
  *
- * What they do is proved (Calls.antt of crates/capi/specs and of crates/capi_slow/specs). docs/SPECIFICATION.md says it in words,
- * docs/answers/README.md says what each answer means and what to look at, docs/TRUST.md what is assumed.
+ * What they do is proved (Calls.antt of crates/capi/specs, crates/capi_slow/specs and crates/capi_access/specs).
+ * docs/SPECIFICATION.md says it in words, docs/answers/README.md says what each answer means and what to look at, docs/TRUST.md
+ * what is assumed.
  */
 #ifndef PIGROZD_H
 #define PIGROZD_H
@@ -45,14 +47,14 @@
 /* The most choices that pigrozd_slow_join goes through. There are as many as the product of all row counts. */
 #define PIGROZD_MOST_CHOICES 1048576
 
-/* As the detail of PIGROZD_OUTPUT_SHORT: so many results or more. */
+/* As the detail of PIGROZD_OUTPUT_SHORT: so many results or more. pigrozd_result_at and pigrozd_number_of refuse so many. */
 #define PIGROZD_HOLD_LIMIT 4294967295u
 
-/* As a value, in a file and in output: not recorded. It matches nothing, not even itself: no result uses a row that holds it
- * in an attribute that two tables of the plan share. In an attribute of one table alone it passes through. */
+/* As a value, in a file, in output and in row: not recorded. It matches nothing, not even itself: no result uses a row that
+ * holds it in an attribute that two tables of the plan share. In an attribute of one table alone it passes through. */
 #define PIGROZD_NOT_RECORDED 4294967295u
 
-/* The largest lengths that a caller may give: bytes of file; words of scratch, and of output. */
+/* The largest lengths that a caller may give: bytes of file; words of any other buffer. */
 #define PIGROZD_MOST_BYTES 9223372036854775807u
 #define PIGROZD_MOST_WORDS 2305843009213693951u
 
@@ -60,8 +62,9 @@
 extern "C" {
 #endif
 
-/* The answers, by number. 10 and 12 are pigrozd_join's alone, and 15 is pigrozd_slow_join's alone. 13 is no answer of the
- * library: the programs give it where their standard input is too long. */
+/* The answers, by number. 12 is pigrozd_join's alone. 15 is pigrozd_slow_join's alone, and stands there in the place of 10. 16
+ * and 18 are pigrozd_result_at's alone, and 17 is pigrozd_number_of's alone. 13 is no answer of the library: the programs give
+ * it where their standard input is too long. */
 enum pigrozd_number {
     PIGROZD_JOINED = 0,
     PIGROZD_CUT_OFF = 1,           /* the file is cut off; detail: offset of the record that is cut */
@@ -77,14 +80,17 @@ enum pigrozd_number {
     PIGROZD_OUTPUT_SHORT = 11,     /* more results than the output fits; detail: number of results, or PIGROZD_HOLD_LIMIT */
     PIGROZD_COUNTS_DIFFER = 12,    /* two counts of the results differ; never given, which is proved; detail: 0 */
     PIGROZD_NO_PLAN_FOUND = 14,    /* no plan can be found for these tables; detail: lowest number of a table that remains */
-    PIGROZD_TOO_MANY_CHOICES = 15  /* more choices than the slow engine goes through; detail: 0 */
+    PIGROZD_TOO_MANY_CHOICES = 15, /* more choices than the slow engine goes through; detail: 0 */
+    PIGROZD_NO_SUCH_RESULT = 16,   /* n is not below the number of results; detail: number of results */
+    PIGROZD_NOT_A_RESULT = 17,     /* the row numbers are those of no result; detail: 0 */
+    PIGROZD_ROW_SHORT = 18         /* the row buffer is shorter than the values of a row; detail: values of a row */
 };
 
 /* The name that 9 had before plans were mended; a plan that is not well-behaved is no longer refused for that. */
 #define PIGROZD_NOT_WELL_BEHAVED PIGROZD_NO_HOLDER
 
-/* number: one of the above, but never 15. After PIGROZD_JOINED detail is 0, and rows and the four counts follow. Any other
- * number is a refusal: detail says where or how much, and the rest is 0. */
+/* number: 0 to 12, or 14. After PIGROZD_JOINED detail is 0, and rows and the four counts follow. Any other number is a refusal:
+ * detail says where or how much, and the rest is 0. */
 typedef struct pigrozd_answer {
     uint64_t number;
     uint64_t detail;
@@ -116,8 +122,8 @@ pigrozd_answer pigrozd_join(const uint8_t *file, size_t file_bytes,
                             uint32_t *scratch, size_t scratch_words,
                             uint32_t *output, size_t output_words);
 
-/* number: one of the above, but never 10 or 12. After PIGROZD_JOINED detail is 0 and rows follows. Any other number is a refusal:
- * detail says where or how much, and rows is 0. */
+/* number: 0 to 9, 11, 14 or 15. After PIGROZD_JOINED detail is 0 and rows follows. Any other number is a refusal: detail says
+ * where or how much, and rows is 0. */
 typedef struct pigrozd_slow_answer {
     uint64_t number;
     uint64_t detail;
@@ -137,6 +143,68 @@ typedef struct pigrozd_slow_answer {
  * file. */
 pigrozd_slow_answer pigrozd_slow_join(const uint8_t *file, size_t file_bytes,
                                       uint32_t *output, size_t output_words);
+
+/* number: 0 to 11, 14, 16 or 18. After PIGROZD_JOINED, which is 0, detail is 0 and rows has the result's row number in each
+ * table, by table number: tables are numbered from 0 in the order of the file, whatever the plan is, and rows from 0 in each
+ * table. The places behind the last table are 0. Any other number is a refusal: detail says where or how much, and all of rows
+ * is 0. */
+typedef struct pigrozd_result_answer {
+    uint64_t number;
+    uint64_t detail;
+    uint32_t rows[PIGROZD_MOST_TABLES];
+} pigrozd_result_answer;
+
+/* Result number n, without writing out the others. Results are numbered from 0 in the order in which pigrozd_join writes them;
+ * so what stands above of plans holds here too.
+ *
+ * After PIGROZD_JOINED row begins with the values of the result: one word for every attribute that some table has, attributes
+ * rising. The words behind them, and after any other number all of row, are as they were.
+ *
+ * 1 to 10 and 14 are those of pigrozd_join, with the same details: the same scratch is needed. Then come, in this order:
+ * - PIGROZD_OUTPUT_SHORT, if there are PIGROZD_HOLD_LIMIT results or more, and only then; detail is this limit.
+ * - PIGROZD_ROW_SHORT, if row_words is less than the values of a row, also where there is no result; detail is how many values
+ *   a row has.
+ * - PIGROZD_NO_SUCH_RESULT, if n is not below the number of results; detail is this number.
+ * After 1 to 10 and 14 scratch is as it was; after any other number all of it is zero. What scratch and row hold before the
+ * call changes no answer.
+ *
+ * To size both buffers, call without them: PIGROZD_SCRATCH_SHORT says how many words of scratch to lend, and then
+ * PIGROZD_ROW_SHORT how many of row. A file of no rows needs no scratch. With both buffers, and 18446744073709551615 as n,
+ * PIGROZD_NO_SUCH_RESULT says how many results there are.
+ *
+ * A call reads the file and groups its rows, as pigrozd_join does before it writes. Then it goes through the rows of one list
+ * for each table, and never through results. Nothing is kept for the next call: a page of 40 results takes 40 calls. */
+pigrozd_result_answer pigrozd_result_at(const uint8_t *file, size_t file_bytes,
+                                        uint32_t *scratch, size_t scratch_words,
+                                        uint64_t n,
+                                        uint32_t *row, size_t row_words);
+
+/* number: 0 to 11, 14 or 17. After PIGROZD_JOINED, which is 0, detail is 0 and n is the number of the result. Any other number is
+ * a refusal: detail says where or how much, and n is 0. */
+typedef struct pigrozd_number_answer {
+    uint64_t number;
+    uint64_t detail;
+    uint64_t n;
+} pigrozd_number_answer;
+
+/* The way back: from the row number of each table, by table number, the number n of the result. rows_count is the number of
+ * tables. So of the 16 places that pigrozd_result_at gives, as many are handed on as the file has tables.
+ *
+ * 1 to 10 and 14 are those of pigrozd_join, with the same details: the same scratch is needed. Then come, in this order:
+ * - PIGROZD_OUTPUT_SHORT, if there are PIGROZD_HOLD_LIMIT results or more, and only then; detail is this limit.
+ * - PIGROZD_NOT_A_RESULT, if rows_count is not the number of tables, or a number names no row of its table, or the rows do not
+ *   agree: two tables that share an attribute have values in it there that do not match. detail is 0.
+ * After 1 to 10 and 14 scratch is as it was; after any other number all of it is zero. What scratch holds before the call
+ * changes no answer.
+ *
+ * The two functions undo each other on every result, wherever neither is refused by 1 to 11, 14 or 18. For the row numbers that
+ * pigrozd_result_at gives for n, this one gives n; and for the n that this one gives for row numbers, pigrozd_result_at gives
+ * these row numbers.
+ *
+ * The work of a call is that of pigrozd_result_at: the file is read and grouped, then one list for each table is gone through. */
+pigrozd_number_answer pigrozd_number_of(const uint8_t *file, size_t file_bytes,
+                                        uint32_t *scratch, size_t scratch_words,
+                                        const uint32_t *rows, size_t rows_count);
 
 #ifdef __cplusplus
 }

@@ -10,7 +10,9 @@ writes, from the top of the repository (standard library of Python only):
 - crates/samples/args: the names, in the order in which the test program goes through them.
 - crates/samples/stdout: for each sample its name, the answer as the program prints it, and what scratch and output hold
   after the call; then number, detail and rows of the slow engine's answer, what an output of its own holds after it, and whether
-  that is what the join's holds. The answers come from reference.py, which tries every choice and shares no code with the library.
+  that is what the join's holds; then results by their numbers (past the last one, and of up to 4,096 the first, the middle and the
+  last), their row numbers, the buffers, and the way back. The answers come from reference.py, which tries every choice and shares
+  no code with the library.
 - crates/pigrozd/stdin and crates/pigrozd/stdout: document 01's sample file and its print.
 
 To add a sample, add a line to a function below and run this again.
@@ -733,13 +735,36 @@ def slow_line(data, output, joined):
     return "slow %d %d %d, %s, %s\n" % (number, detail, len(rows), after_output(rows), told)
 
 
+# ---- results by number
+def result_samples():
+    pair = [table((0,), (5,), (6,)), table((1,), (7,), (8,), (7,))]
+    sample("result_tables_named_in_another_order", file(pair, FF, 1, 0), 60, 2)
+    sample("result_row_one_word_short", file(pair, FF, 1, 0), 60, 1)
+    sample("result_row_longer", file(pair, FF, 0, 1), 60, 3)
+    three = [table((0,), (5,), (5,)), table((0,), (5,), (5,), (6,)), table((0,), (4,), (5,), (5,))]
+    sample("result_two_joins_of_the_first_table", file(three, FF, FF, 0, 1, 2), 100, 1)
+    sample("result_of_the_plan_found", file(three), 100, 1)
+    left = table((0, 1), (1, 10), (2, 11), (3, 12), (2, 13), (9, 14), (1, 15))
+    middle = table((0, 2), (2, 20), (1, 21), (2, 22), (3, 23), (1, 20), (2, 24))
+    right = table((2, 3), (20, 1), (22, 2), (20, 3), (24, 4), (22, 5), (20, 6), (29, 7))
+    last = table((1, 4), (10, 1), (13, 2), (11, 3), (10, 4), (13, 5), (14, 6), (10, 7))
+    uneven = [left, middle, right, last]
+    sample("result_groups_of_uneven_totals", file(uneven, FF, FF, 0, FF, 1, 2, 3))
+    sample("result_groups_of_uneven_totals_another_order", file(uneven, FF, FF, 0, 3, FF, 1, 2))
+    sample("result_groups_of_uneven_totals_no_plan", file(uneven))
+    sample("result_row_lost_in_its_group", file([left, middle, table((2, 3), (20, 1), (24, 2))], FF, 0, FF, 1, 2))
+    equal = [table((0,), *[(5,)] * 4)] * 16
+    sample("result_of_4294967296", file(equal, *left_deep(16)), 2000)
+    sample("result_of_3221225472", file([table((0,), *[(5,)] * 3), *equal[1:]], *left_deep(16)), 2000)
+
+
 def main():
     for make in (
         bench_samples, cut_samples, record_samples, plan_samples, buffer_samples, product_samples, key_samples,
         unrecorded_samples, row_samples, many_table_samples, tree_samples, mended_samples, mended_choice_samples,
         no_holder_samples, sixteen_samples, mended_tree_samples, found_samples, found_choice_samples,
         not_found_samples, sixteen_found_samples, found_tree_samples, slow_limit_samples, slow_product_samples,
-        slow_refusal_samples,
+        slow_refusal_samples, result_samples,
     ):
         make()
     folder = os.path.join(TOP, "crates/samples/data")
@@ -752,6 +777,7 @@ def main():
         write("crates/samples/data/" + name, word(scratch) + word(output) + data)
         answer = reference.outcome(data, scratch, output)
         text += name + "\n" + reference.lines(answer) + after(answer, scratch) + slow_line(data, output, answer[2])
+        text += reference.shown_results(data, scratch, output)
     write("crates/samples/args", "".join(name + "\n" for name, *_ in samples).encode())
     write("crates/samples/stdout", text.encode())
     write("crates/pigrozd/stdin", P1)

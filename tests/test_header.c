@@ -1,7 +1,7 @@
 /* Tests include/pigrozd.h as C99 and as C++ against the library: that each name of an answer is the number that is given under
  * its condition, that the limits are those at which answers change, that a plan is mended, or found where there is none, that a
- * value which was not recorded matches nothing, that the slow engine gives what the join gives, and that the version is said
- * alike everywhere.
+ * value which was not recorded matches nothing, that the slow engine gives what the join gives, that a result is given by its
+ * number and its number by its rows, and that the version is said alike everywhere.
  * make check-c runs it. It prints nothing and ends with 0, or prints each test that failed and ends with 1. */
 #include "pigrozd.h"
 
@@ -34,6 +34,13 @@ static void put_word(uint32_t word)
     int i;
     for (i = 0; i < 4; i++)
         put_byte((word >> (8 * i)) & 255);
+}
+
+static void put_words(const uint32_t *words, unsigned count)
+{
+    unsigned i;
+    for (i = 0; i < count; i++)
+        put_word(words[i]);
 }
 
 static void put_table(uint32_t mask, uint32_t rows)
@@ -78,13 +85,75 @@ static void put_tables(unsigned tables, uint32_t rows)
     put_plan(code, 2 * tables - 1);
 }
 
+/* how many tables the file has; only for a file that is not refused as a file */
+static unsigned count_tables(void)
+{
+    unsigned tables = 0, i;
+    size_t at = 0;
+    for (; file[at] == 'T'; tables++) {
+        uint32_t rows = file[at + 6] | (uint32_t)file[at + 7] << 8;
+        unsigned ones = 0;
+        for (i = 0; i < 32; i++)
+            ones += file[at + 2 + i / 8] >> (i % 8) & 1;
+        at += 10 + 4 * ones * rows;
+    }
+    return tables;
+}
+
 /* ---- calls */
 static uint32_t scratch[PIGROZD_MOST_SCRATCH_WORDS];
 static uint32_t output[PIGROZD_MOST_OUTPUT_WORDS + 1];
 static uint32_t slow_output[PIGROZD_MOST_OUTPUT_WORDS + 1];
+static uint32_t row[PIGROZD_MOST_ATTRIBUTES];
+
+/* that result number n is the one that the join wrote, of so many values, and is found back by its rows */
+static void expect_result(uint64_t n, size_t scratch_words, size_t width)
+{
+    pigrozd_result_answer one = pigrozd_result_at(file, length, scratch, scratch_words, n, row, width);
+    pigrozd_number_answer back = pigrozd_number_of(file, length, scratch, scratch_words, one.rows, count_tables());
+
+    EXPECT(one.number, PIGROZD_JOINED);
+    EXPECT(one.detail, 0);
+    EXPECT(memcmp(row, output + n * width, 4 * width), 0);
+    EXPECT(back.number, PIGROZD_JOINED);
+    EXPECT(back.detail, 0);
+    EXPECT(back.n, n);
+}
+
+/* Beside the join, which gave this answer, the two functions for one result, without a row and without row numbers: up to 10 and
+ * with 14 they give its number and detail. Past 10 such a row is too short, and so many are the row numbers of no result, unless
+ * there are too many results. Of those that the join wrote, the first, one in the middle and the last are looked at. */
+static void expect_single(pigrozd_answer given, size_t scratch_words)
+{
+    pigrozd_result_answer one = pigrozd_result_at(file, length, scratch, scratch_words, 0, row, 0);
+    pigrozd_number_answer back = pigrozd_number_of(file, length, scratch, scratch_words, row, 0);
+    uint64_t width = one.detail;
+
+    if (given.number != PIGROZD_JOINED && (given.number != PIGROZD_OUTPUT_SHORT || given.detail == PIGROZD_HOLD_LIMIT)) {
+        EXPECT(one.number, given.number);
+        EXPECT(one.detail, given.detail);
+        EXPECT(back.number, given.number);
+        EXPECT(back.detail, given.detail);
+        return;
+    }
+    EXPECT(one.number, PIGROZD_ROW_SHORT);
+    EXPECT(back.number, PIGROZD_NOT_A_RESULT);
+    EXPECT(back.detail, 0);
+    EXPECT(width <= PIGROZD_MOST_ATTRIBUTES, 1);
+    if (width > PIGROZD_MOST_ATTRIBUTES)
+        return;
+    one = pigrozd_result_at(file, length, scratch, scratch_words, PIGROZD_HOLD_LIMIT, row, width);
+    EXPECT(one.number, PIGROZD_NO_SUCH_RESULT);
+    EXPECT(one.detail, given.number == PIGROZD_JOINED ? given.rows : given.detail);
+    if (given.rows != 0) {
+        expect_result(0, scratch_words, width);
+        expect_result(given.rows / 2, scratch_words, width);
+        expect_result(given.rows - 1, scratch_words, width);
+    }
+}
 
 /* The join; and beside it the slow engine, over an output of its own that holds the same before. Where neither says 10 or 15,
- * both answers and both outputs are the same. */
+ * both answers and both outputs are the same. Then the two functions for one result, as above. */
 static pigrozd_answer lent(size_t scratch_words, size_t output_words)
 {
     pigrozd_slow_answer slow;
@@ -100,7 +169,9 @@ static pigrozd_answer lent(size_t scratch_words, size_t output_words)
         EXPECT(memcmp(slow_output, output, sizeof output), 0);
     }
     EXPECT(slow.number == PIGROZD_SCRATCH_SHORT || slow.number == PIGROZD_COUNTS_DIFFER, 0);
-    EXPECT(given.number == PIGROZD_TOO_MANY_CHOICES, 0);
+    EXPECT(given.number >= PIGROZD_TOO_MANY_CHOICES, 0);
+    EXPECT(slow.number > PIGROZD_TOO_MANY_CHOICES, 0);
+    expect_single(given, scratch_words);
     return given;
 }
 
@@ -502,6 +573,211 @@ static void test_slow(void)
     EXPECT_SLOW(7, PIGROZD_OUTPUT_SHORT, 2, 0);
 }
 
+/* the sample file of docs/SPECIFICATION.md, section 12: frames, exposures and readings, with this plan */
+static void put_sample(const char *code, unsigned bytes)
+{
+    static const uint32_t frames[] = {10, 11, 12, 13, 1, 2, 2, 4}, exposures[] = {1, 2, 2, 3, 7, 8, 9, 7};
+    static const uint32_t readings[] = {7, 7, 9, 29510, 29510, 29530};
+
+    length = 0;
+    put_table(3, 4);
+    put_words(frames, 8);
+    put_table(6, 4);
+    put_words(exposures, 8);
+    put_table(12, 3);
+    put_words(readings, 6);
+    put_plan(code, bytes);
+}
+
+/* that after this answer so many words of scratch are zero past 10, and else as they were; and those behind them in any case */
+static void expect_scratch(uint64_t number, size_t words)
+{
+    int past_10 = number == PIGROZD_JOINED || (number > PIGROZD_SCRATCH_SHORT && number != PIGROZD_NO_PLAN_FOUND);
+    EXPECT(is_filled(scratch, words, past_10 ? 0 : 0xa5), 1);
+    EXPECT(is_filled(scratch + words, PIGROZD_MOST_SCRATCH_WORDS - words, 0xa5), 1);
+}
+
+/* result number n. A refusal gives no row numbers and leaves the row as it was */
+static pigrozd_result_answer result_lent(size_t scratch_words, uint64_t n, size_t row_words)
+{
+    pigrozd_result_answer given;
+    unsigned i;
+
+    memset(scratch, 0xa5, sizeof scratch);
+    memset(row, 0x5a, sizeof row);
+    given = pigrozd_result_at(file, length, scratch, scratch_words, n, row, row_words);
+    expect_scratch(given.number, scratch_words);
+    if (given.number != PIGROZD_JOINED) {
+        EXPECT(is_filled(row, PIGROZD_MOST_ATTRIBUTES, 0x5a), 1);
+        for (i = 0; i < PIGROZD_MOST_TABLES; i++)
+            EXPECT(given.rows[i], 0);
+    }
+    return given;
+}
+
+/* the way back. A refusal gives 0 as n */
+static pigrozd_number_answer number_lent(size_t scratch_words, const uint32_t *rows, size_t count)
+{
+    pigrozd_number_answer given;
+
+    memset(scratch, 0xa5, sizeof scratch);
+    given = pigrozd_number_of(file, length, scratch, scratch_words, rows, count);
+    expect_scratch(given.number, scratch_words);
+    if (given.number != PIGROZD_JOINED)
+        EXPECT(given.n, 0);
+    return given;
+}
+
+#define EXPECT_RESULT(scratch_words, n, row_words, wanted_number, wanted_detail) \
+    do { \
+        pigrozd_result_answer given = result_lent(scratch_words, n, row_words); \
+        EXPECT(given.number, wanted_number); \
+        EXPECT(given.detail, wanted_detail); \
+    } while (0)
+
+#define EXPECT_NUMBER(scratch_words, rows, count, wanted_number, wanted_detail, wanted_n) \
+    do { \
+        pigrozd_number_answer given = number_lent(scratch_words, rows, count); \
+        EXPECT(given.number, wanted_number); \
+        EXPECT(given.detail, wanted_detail); \
+        EXPECT(given.n, wanted_n); \
+    } while (0)
+
+/* that result number n has these values and, by table number, these rows; and that these rows have the number n. The words of the
+ * row behind the values are as they were, and the places behind the last table are 0 */
+static void expect_there_and_back(size_t scratch_words, uint64_t n, const uint32_t *values, unsigned width, const uint32_t *rows,
+                                  unsigned tables)
+{
+    pigrozd_result_answer given = result_lent(scratch_words, n, width + 1);
+    unsigned i;
+
+    EXPECT(given.number, PIGROZD_JOINED);
+    EXPECT(given.detail, 0);
+    EXPECT(memcmp(row, values, 4 * width), 0);
+    EXPECT(is_filled(row + width, PIGROZD_MOST_ATTRIBUTES - width, 0x5a), 1);
+    for (i = 0; i < PIGROZD_MOST_TABLES; i++)
+        EXPECT(given.rows[i], i < tables ? rows[i] : 0);
+    EXPECT_NUMBER(scratch_words, rows, tables, PIGROZD_JOINED, 0, n);
+}
+
+/* results of the sample by their numbers, and back */
+static void test_one_result(void)
+{
+    static const uint32_t values[4][4] = {{10, 1, 7, 29510}, {10, 1, 7, 29510}, {11, 2, 9, 29530}, {12, 2, 9, 29530}};
+    static const uint32_t rows[4][3] = {{0, 0, 0}, {0, 0, 1}, {1, 2, 2}, {2, 2, 2}};
+    static const uint32_t chain_values[2][4] = {{9, 5, 8, 6}, {9, 5, 7, 6}}, chain_rows[2][3] = {{0, 1, 0}, {0, 0, 1}};
+    unsigned n;
+
+    EXPECT(PIGROZD_NO_SUCH_RESULT, 16);
+    EXPECT(PIGROZD_NOT_A_RESULT, 17);
+    EXPECT(PIGROZD_ROW_SHORT, 18);
+
+    put_sample("\377\0\377\1\2", 5);
+    EXPECT(length, 126);
+    EXPECT_ANSWER(PIGROZD_JOINED, 0);
+    for (n = 0; n < 4; n++) {
+        expect_there_and_back(96, n, values[n], 4, rows[n], 3);
+        expect_there_and_back(100, n, values[n], 4, rows[n], 3);
+    }
+
+    /* the chain is joined by 2 with (1 with 0), mended or found: rows are told by table number all the same */
+    for (n = 0; n < 2; n++) {
+        put_chain();
+        put_plan("\377\0\377\2\1", 5);
+        expect_there_and_back(62, n, chain_values[n], 4, chain_rows[n], 3);
+        put_chain();
+        put_plan("", 0);
+        expect_there_and_back(62, n, chain_values[n], 4, chain_rows[n], 3);
+    }
+}
+
+/* what the two functions refuse past 9 and 14, in the order of the answers */
+static void test_no_result(void)
+{
+    static const uint32_t zeros[PIGROZD_MOST_TABLES] = {0}, masks[] = {1, 3};
+    static const uint32_t wrong[][3] = {
+        {4, 0, 0}, {0, 4, 0}, {0, 0, 3}, {PIGROZD_NOT_RECORDED, 0, 0}, /* no such row */
+        {1, 0, 0}, {0, 1, 0}, {0, 0, 2}, {3, 0, 0}, {2, 1, 2}          /* rows that do not agree */
+    };
+    unsigned i;
+
+    put_sample("\377\0\377\1\2", 5);
+    EXPECT_RESULT(95, 0, 4, PIGROZD_SCRATCH_SHORT, 96);
+    EXPECT_RESULT(95, 4, 3, PIGROZD_SCRATCH_SHORT, 96);
+    EXPECT_RESULT(0, 0, 0, PIGROZD_SCRATCH_SHORT, 96);
+    EXPECT_RESULT(96, 0, 3, PIGROZD_ROW_SHORT, 4);
+    EXPECT_RESULT(96, 4, 3, PIGROZD_ROW_SHORT, 4);
+    EXPECT_RESULT(96, 0, 0, PIGROZD_ROW_SHORT, 4);
+    EXPECT_RESULT(96, 4, 4, PIGROZD_NO_SUCH_RESULT, 4);
+    EXPECT_RESULT(96, (uint64_t)1 << 32, 4, PIGROZD_NO_SUCH_RESULT, 4);
+    EXPECT_RESULT(96, (uint64_t)-1, 4, PIGROZD_NO_SUCH_RESULT, 4);
+
+    EXPECT_NUMBER(95, zeros, 3, PIGROZD_SCRATCH_SHORT, 96, 0);
+    EXPECT_NUMBER(95, zeros, 2, PIGROZD_SCRATCH_SHORT, 96, 0);
+    for (i = 0; i <= PIGROZD_MOST_TABLES; i++)
+        if (i != 3)
+            EXPECT_NUMBER(96, zeros, i, PIGROZD_NOT_A_RESULT, 0, 0);
+    for (i = 0; i < sizeof wrong / sizeof wrong[0]; i++)
+        EXPECT_NUMBER(96, wrong[i], 3, PIGROZD_NOT_A_RESULT, 0, 0);
+
+    /* no result at all, and no scratch needed: the row comes first */
+    put_masks(masks, 2);
+    EXPECT_RESULT(0, 0, 1, PIGROZD_ROW_SHORT, 2);
+    EXPECT_RESULT(0, 0, 2, PIGROZD_NO_SUCH_RESULT, 0);
+    EXPECT_NUMBER(0, zeros, 2, PIGROZD_NOT_A_RESULT, 0, 0);
+
+    /* what was not recorded does not agree with itself */
+    length = 0;
+    put_row(3, 7, PIGROZD_NOT_RECORDED);
+    put_row(6, PIGROZD_NOT_RECORDED, 9);
+    put_plan("\377\0\1", 3);
+    EXPECT_RESULT(17, 0, 3, PIGROZD_NO_SUCH_RESULT, 0);
+    EXPECT_NUMBER(17, zeros, 2, PIGROZD_NOT_A_RESULT, 0, 0);
+}
+
+/* three tables of attribute 0. Each has rows for each of so many keys, and counts says how many */
+static void put_groups(const uint32_t (*counts)[3], unsigned keys)
+{
+    unsigned table, i;
+    uint32_t y;
+
+    length = 0;
+    for (table = 0; table < 3; table++) {
+        uint32_t rows = 0;
+        for (i = 0; i < keys; i++)
+            rows += counts[i][table];
+        put_table(1, rows);
+        for (i = 0; i < keys; i++)
+            for (y = 0; y < counts[i][table]; y++)
+                put_word(i);
+    }
+    put_plan("\377\0\377\1\2", 5);
+}
+
+/* the most results that have numbers: five keys have 4,294,967,294 results, and a sixth has one */
+static void test_most_results(void)
+{
+    static const uint32_t counts[6][3] = {
+        {1626, 1625, 1625}, {110, 109, 109}, {16, 16, 16}, {4, 3, 3}, {2, 1, 1}, {1, 1, 1}
+    };
+    static const uint32_t rows[3][3] = {{0, 0, 0}, {0, 2, 750}, {1757, 1753, 1753}}, keys[] = {0, 4};
+    const size_t words = PIGROZD_MOST_SCRATCH_WORDS;
+
+    put_groups(counts, 5);
+    EXPECT_ANSWER(PIGROZD_OUTPUT_SHORT, PIGROZD_HOLD_LIMIT - 1);
+    expect_there_and_back(words, 0, &keys[0], 1, rows[0], 3);
+    expect_there_and_back(words, 4000, &keys[0], 1, rows[1], 3);
+    expect_there_and_back(words, PIGROZD_HOLD_LIMIT - 2, &keys[1], 1, rows[2], 3);
+    EXPECT_RESULT(words, PIGROZD_HOLD_LIMIT - 1, 1, PIGROZD_NO_SUCH_RESULT, PIGROZD_HOLD_LIMIT - 1);
+
+    /* so many are refused, before the row and its number are looked at */
+    put_groups(counts, 6);
+    EXPECT_RESULT(words, 0, 1, PIGROZD_OUTPUT_SHORT, PIGROZD_HOLD_LIMIT);
+    EXPECT_RESULT(words, (uint64_t)-1, 0, PIGROZD_OUTPUT_SHORT, PIGROZD_HOLD_LIMIT);
+    EXPECT_NUMBER(words, rows[0], 3, PIGROZD_OUTPUT_SHORT, PIGROZD_HOLD_LIMIT, 0);
+    EXPECT_NUMBER(words, rows[0], 0, PIGROZD_OUTPUT_SHORT, PIGROZD_HOLD_LIMIT, 0);
+}
+
 static void test_lengths(void)
 {
     EXPECT(PIGROZD_MOST_BYTES, (uint64_t)-1 / 2);
@@ -509,6 +785,14 @@ static void test_lengths(void)
     EXPECT(sizeof(size_t), 8);
     EXPECT(sizeof(pigrozd_answer), 56);
     EXPECT(sizeof(pigrozd_slow_answer), 24);
+    EXPECT(sizeof(pigrozd_result_answer), 80);
+    EXPECT(offsetof(pigrozd_result_answer, number), 0);
+    EXPECT(offsetof(pigrozd_result_answer, detail), 8);
+    EXPECT(offsetof(pigrozd_result_answer, rows), 16);
+    EXPECT(sizeof(pigrozd_number_answer), 24);
+    EXPECT(offsetof(pigrozd_number_answer, number), 0);
+    EXPECT(offsetof(pigrozd_number_answer, detail), 8);
+    EXPECT(offsetof(pigrozd_number_answer, n), 16);
 }
 
 static void test_version(void)
@@ -527,6 +811,9 @@ int main(void)
     test_not_found();
     test_not_recorded();
     test_slow();
+    test_one_result();
+    test_no_result();
+    test_most_results();
     test_lengths();
     test_version();
     return failures == 0 ? 0 : 1;

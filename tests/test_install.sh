@@ -30,6 +30,8 @@ cat >"$room/wanted" <<EOF
 ./share/man/man1/pigrozd-accept.1
 ./share/man/man1/pigrozd-file.1
 ./share/man/man3/pigrozd_join.3
+./share/man/man3/pigrozd_number_of.3
+./share/man/man3/pigrozd_result_at.3
 ./share/man/man3/pigrozd_slow_join.3
 EOF
 diff "$room/wanted" "$room/found" || fail 'other files are installed'
@@ -56,14 +58,15 @@ diff examples/c/expected "$room/printed" || fail 'the static example prints some
 diff crates/pigrozd/stdout "$room/printed" || fail 'the program prints something else'
 [ "$("$room/prefix/bin/pigrozd-accept" <crates/pigrozd/stdin)" = 'same 0 0 4' ] || fail 'the engines do not agree'
 
-# the manual pages
-for page in man1/pigrozd-file.1 man1/pigrozd-accept.1 man3/pigrozd_join.3 man3/pigrozd_slow_join.3; do
+# the manual pages; two functions have one
+for page in man1/pigrozd-file.1 man1/pigrozd-accept.1 man3/pigrozd_join.3 man3/pigrozd_slow_join.3 man3/pigrozd_result_at.3; do
     if command -v mandoc >/dev/null; then
         mandoc -T lint -W warning "$room/prefix/share/man/$page" || fail "mandoc warns of $page"
     elif command -v groff >/dev/null; then
         [ -z "$(groff -man -ww -Tutf8 "$room/prefix/share/man/$page" 2>&1 >/dev/null)" ] || fail "groff warns of $page"
     fi
 done
+[ "$(cat "$room/prefix/share/man/man3/pigrozd_number_of.3")" = '.so man3/pigrozd_result_at.3' ] || fail 'a page leads elsewhere'
 
 $make -s uninstall PREFIX="$room/prefix" || fail 'make uninstall fails'
 left=$(find "$room/prefix" ! -type d)

@@ -25,7 +25,7 @@ def words(*values):
 
 class Calls(unittest.TestCase):
     def printed(self, file, scratch_words, output_words):
-        """What the test program crates/samples prints of one call, and of one of the slow engine."""
+        """What the test program crates/samples prints of one call, of one of the slow engine, and of results by number."""
         scratch, output = words(BEFORE) * scratch_words, words(BEFORE) * output_words
         answer = pigrozd.call(file, scratch, output)
         width = len(plans.width(fileformat.read(bytes(file)).tables))
@@ -46,7 +46,32 @@ class Calls(unittest.TestCase):
         if answer.number != 10 and given.number != 15:
             self.assertEqual((given, slow), (answer[:3], output))
         text += "slow %d %d %d, " % given + self.written(slow, width * given.rows)
-        return text + (", as the join's\n" if slow == output else ", not as the join's\n")
+        text += ", as the join's\n" if slow == output else ", not as the join's\n"
+        return text + self.shown(file, scratch_words, output_words, width)
+
+    def shown(self, file, scratch_words, row_words, width):
+        """What the test program prints of results by number: past the last, the first, the middle and the last one."""
+        text, count = "", 0
+        for place in range(4):
+            n = (2**64 - 1, 0, count // 2, count - 1)[place]
+            scratch, row = words(BEFORE) * scratch_words, words(BEFORE) * row_words
+            answer = pigrozd.call_result_at(file, scratch, n, row)
+            unchanged = scratch == words(BEFORE) * scratch_words
+            self.assertTrue(unchanged or not any(scratch))
+            left = "empty" if not scratch else "unchanged" if unchanged else "zero"
+            rows = " ".join(map(str, answer.rows))
+            text += "result %d: %d %d, rows %s, scratch %s, " % (n, answer.number, answer.detail, rows, left)
+            text += self.written(row, 0 if answer.number else width)
+            if answer.number:
+                text += ", back %d %d\n" % pigrozd.call_number_of(file, scratch, [])[:2]
+            else:
+                back = [pigrozd.call_number_of(file, scratch, answer.rows[:k]) for k in range(17)]
+                text += ", back by" + "".join(" %d" % k for k in range(17) if back[k] == (0, 0, n)) + "\n"
+            if answer.number == 16:
+                count = answer.detail
+            if not 0 < count <= 4096:
+                break
+        return text
 
     def written(self, output, end):
         """What the test program says of an output that has this many words of results."""
@@ -151,7 +176,12 @@ class Loading(unittest.TestCase):
         header = load("include", "pigrozd.h").decode()
         structs = {name: body for name, body in re.findall(r"^typedef struct (\w+) \{\n(.*?)^\}", header, re.M | re.S)}
         fields = {name: tuple(re.findall(r"^    uint64_t (\w+);", body, re.M)) for name, body in structs.items()}
-        wanted = {"pigrozd_answer": pigrozd.Answer._fields, "pigrozd_slow_answer": pigrozd.SlowAnswer._fields}
+        wanted = {
+            "pigrozd_answer": pigrozd.Answer._fields,
+            "pigrozd_slow_answer": pigrozd.SlowAnswer._fields,
+            "pigrozd_result_answer": ("number", "detail"),
+            "pigrozd_number_answer": pigrozd.NumberAnswer._fields,
+        }
         self.assertEqual(fields, wanted)
         self.assertEqual(ctypes.sizeof(library.AnswerStruct), 56)
         self.assertEqual(ctypes.sizeof(library.SlowAnswerStruct), 24)

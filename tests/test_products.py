@@ -49,7 +49,7 @@ class Multiplications(Folder):
             self.assertEqual(others, [], built)
 
     def test_nothing_that_multiplies_is_called(self):
-        """By either function, which is an object of its own."""
+        """By any function of the library, whatever object it is in."""
         called = {line.split()[-1] for line in printed("nm", "-u", BUILT[0]).splitlines() if " U " in line}
         self.assertEqual(called, {"memcpy", "memset"})
 

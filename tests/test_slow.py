@@ -479,14 +479,15 @@ class Documents(Engine, Folder):
 
 class Objects(Folder):
     def test_a_program_with_the_join_alone(self):
-        """It has nothing of the slow engine in it: each function is an object of its own in the library."""
+        """It has nothing of the slow engine nor of results by number in it: these are objects of their own in the library."""
         text = '#include "pigrozd.h"\nvoid *volatile f = (void *)pigrozd_join;\nint main(void) { return !f; }\n'
         source = self.write("f.c", text)
         compiler, library = os.environ.get("CC", "cc"), os.path.join(TOP, "target", "lib", "libpigrozd.a")
         subprocess.run([compiler, "-I", os.path.join(TOP, "include"), "-o", self.at("f"), source, library], check=True)
         named = subprocess.run(["nm", self.at("f")], stdout=subprocess.PIPE, check=True).stdout.decode()
         self.assertIn(" T pigrozd_join\n", named)
-        self.assertNotIn("slow", named)
+        for other in ("slow", "result_at", "number_of"):
+            self.assertNotIn(other, named)
 
 
 class Environment(unittest.TestCase):

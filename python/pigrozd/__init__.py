@@ -18,11 +18,21 @@ comes back where its column is in one table only. The library finds a plan, or t
 join(tables, "(frames (exposures readings))"), and mends it if it is not well-behaved; result.plan is the plan that was
 followed. What cannot be joined raises Refused, TypeError or ValueError. join(tables, engine="slow") has the slow
 engine, for acceptance days, go through every choice of rows; it gives the same result, without counts.
-docs/PYTHON.md says more; `python3 -m pigrozd --help` joins CSV files.
+
+    opened = pigrozd.open_tables(tables)
+    len(opened)                     # 4
+    opened[2]                       # (11, 2, 9, 29530)
+    opened.result(2).rows           # (1, 2, 2)
+    opened.number_of((1, 2, 2))     # 2
+
+Opened tables give any result by its number, without the others: its values, and the row number of each table. From
+such row numbers they give the number. docs/PYTHON.md says more; `python3 -m pigrozd --help` joins CSV files.
 """
-from .answers import MEANINGS, Refused
+from .access import ResultRow, ResultSlice, Tables, open_file, open_tables
+from .answers import MEANINGS, NoSuchResult, Refused
 from .joining import join, join_file, make_file
-from .library import Answer, Engine, LibraryError, SlowAnswer, call, call_slow
+from .library import Answer, Engine, LibraryError, NumberAnswer, ResultAnswer, SlowAnswer
+from .library import call, call_number_of, call_result_at, call_slow
 from .messages import InputError
 from .results import Counts, Result
 from .values import NOT_RECORDED
@@ -32,14 +42,24 @@ __all__ = [
     "join",
     "join_file",
     "make_file",
+    "open_tables",
+    "open_file",
     "call",
     "call_slow",
+    "call_result_at",
+    "call_number_of",
     "Answer",
     "SlowAnswer",
+    "ResultAnswer",
+    "NumberAnswer",
     "Engine",
     "Counts",
     "Result",
+    "ResultRow",
+    "ResultSlice",
+    "Tables",
     "Refused",
+    "NoSuchResult",
     "InputError",
     "LibraryError",
     "MEANINGS",

@@ -26,12 +26,17 @@ MEANINGS: Dict[int, Meaning] = {
     13: Meaning("standard input is too long", "65536"),
     14: Meaning("no plan can be found for these tables", "lowest number of a table that remains"),
     15: Meaning("more choices than the slow engine goes through", "0"),
+    16: Meaning("n is not below the number of results", "number of results"),
+    17: Meaning("the row numbers are those of no result", "0"),
+    18: Meaning("the row buffer is shorter than the values of a row", "values of a row"),
 }
 
 LAST_OF_RECORDS = 6  # answers up to this one have an offset in the file as their detail, or are 0
 LAST_OF_PLANS = 9  # further answers up to this one have an index in the plan as their detail
+TOO_MANY_RESULTS = 11  # than the output fits; where one result is asked for, than can be numbered
 NONE_FOUND = 14  # in place of 8 and 9 where a file with tables has no plan; its detail is the number of a table
 TOO_MANY_CHOICES = 15  # in place of 10 where the slow engine is called
+NO_SUCH_RESULT, NOT_A_RESULT, ROW_SHORT = 16, 17, 18  # where one result is asked for by its number, or by its rows
 
 
 class Refused(Exception):
@@ -53,3 +58,7 @@ class Refused(Exception):
 
     def __str__(self) -> str:
         return "refused %d %d: %s" % (self.number, self.detail, self.meaning)
+
+
+class NoSuchResult(Refused, IndexError):
+    """Answer 16: there is no result with this number. It is a Refused, and the IndexError of a sequence."""

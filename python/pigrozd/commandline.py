@@ -9,16 +9,18 @@ import sys
 from typing import Any, List, NoReturn, Optional, Sequence
 
 from . import __version__, commands
+from .access import PAGE
 from .answers import Refused
 from .commands import REFUSED, UNUSABLE
-from .limits import MOST_CHOICES
+from .limits import HIGHEST_COUNT, MOST_CHOICES
 from .messages import InputError
 from .streams import PROGRAM, tell, write_out
 from .values import LARGEST
 
 ABOUT = """Joins tables. `pigrozd join a.csv b.csv c.csv` joins CSV files by a plan that is found for them, or by the
-one that --plan gives; the other commands are for packed files, which are tables in one file, with a plan or without
-one, as document 01 says, and for plans. `pigrozd COMMAND --help` says more of each, docs/TOOLS.md has examples."""
+one that --plan gives, and `pigrozd view` shows results of such a join a page at a time; the other commands are for
+packed files, which are tables in one file, with a plan or without one, as document 01 says, and for plans. `pigrozd
+COMMAND --help` says more of each, docs/TOOLS.md has examples."""
 
 
 def main(arguments: Optional[Sequence[str]] = None) -> int:
@@ -87,7 +89,7 @@ def parser_of_all() -> argparse.ArgumentParser:
     parser = Parser(prog=PROGRAM, description=ABOUT, allow_abbrev=False)
     parser.add_argument("--version", action=ShowVersion, nargs=0, help="show the version and end")
     subparsers = parser.add_subparsers(title="commands", metavar="COMMAND", dest="command", required=True)
-    for add in (add_join, add_pack, add_unpack, add_rows, add_dump, add_plan):
+    for add in (add_join, add_view, add_pack, add_unpack, add_rows, add_dump, add_plan):
         add(subparsers)
     return parser
 
@@ -147,6 +149,31 @@ def add_join(subparsers: Any) -> None:
         help="join; or slow, for acceptance days: the slow engine goes through every choice of rows, {:,} at most, "
         "and gives the same rows, without counts (without this: join)".format(MOST_CHOICES),
     )
+    add_csv_options(p)
+
+
+def add_view(subparsers: Any) -> None:
+    """pigrozd view"""
+    p = add_command(
+        subparsers,
+        commands.view,
+        "Shows results of a join by their numbers, which count from 0 in the order of `pigrozd join`. On a terminal "
+        "it shows a page of them and goes to any other result at once; `?` tells the keys. Else it prints one page. "
+        "Only results that are shown are read. A join with {:,} results or more is refused. Files are given as to "
+        "`pigrozd join`.".format(HIGHEST_COUNT),
+    )
+    p.add_argument("files", metavar="FILE", nargs="+", help="a packed file; or CSV files")
+    p.add_argument("--at", metavar="N", help="begin with result number N (without this: with the first one, 0)")
+    p.add_argument(
+        "--find",
+        metavar="ROW,ROW,..",
+        help="begin with the result that is made of these rows: one row number, from 0, for each table in turn",
+    )
+    p.add_argument("--rows", metavar="COUNT", help="so many results make a page (without this: %d)" % PAGE)
+    p.add_argument(
+        "--row-numbers", action="store_true", help="show the row numbers that a result is made of beside its values"
+    )
+    p.add_argument("--plan", help="join by this plan, as `pigrozd join --plan` does")
     add_csv_options(p)
 
 

@@ -5,8 +5,9 @@ import re
 import shlex
 from typing import List, Optional, Sequence, Tuple, Union
 
-from . import csvfiles, dumps, fileformat, files, plans
-from .answers import LAST_OF_PLANS, LAST_OF_RECORDS, MEANINGS, NONE_FOUND, TOO_MANY_CHOICES, Refused
+from . import csvfiles, dumps, fileformat, files, plans, screens, viewing
+from .access import PAGE, Tables
+from .answers import LAST_OF_PLANS, LAST_OF_RECORDS, MEANINGS, NO_SUCH_RESULT, NONE_FOUND, TOO_MANY_CHOICES, Refused
 from .drawing import Drawing, DrawingOfStuck, drawing_without_plan
 from .joining import join_bytes
 from .library import engine_named
@@ -142,6 +143,43 @@ def drawing_of(file: fileformat.File, names: Names) -> Optional[Drawn]:
     return Drawing(file.plan, file.tables, names) if file.plan else None
 
 
+# ---- view
+def view(a: Arguments) -> int:
+    """Shows results of a join by their numbers, a page at a time, without writing out the others."""
+    try:
+        return view_results(a)
+    except Refused as refused:
+        if is_packed(a.files):
+            return refused_file(a.files[0], refused, a.plan)
+        hint = "; %s shows it" % command_for_tables(a.files) if refused.number == NONE_FOUND else ""
+        tell("%s%s" % (refused, hint))
+        return REFUSED
+
+
+def view_results(a: Arguments) -> int:
+    """Shows what the arguments name: on a terminal for as long as the user likes, else one page as text."""
+    at = None if a.at is None else viewing.number_in(a.at, "--at")
+    rows = None if a.find is None else viewing.numbers_in(a.find, "a row number of --find")
+    size = PAGE if a.rows is None else viewing.number_in(a.rows, "--rows")
+    if size == 0:
+        raise InputError("--rows is at least 1")
+    if at is not None and rows is not None:
+        raise InputError("--at and --find both say with which result to begin; give one of them")
+    data, names = load_inputs(a)
+    tables, first = Tables(data, names), 0
+    if rows is not None:
+        first = tables.number_of(rows)
+    elif at is not None:
+        first = tables.result(at).n
+    layout = viewing.Layout(tables, fileformat.read(data, names), names)
+    if screens.is_there():
+        screens.run(viewing.View(tables, layout, size, first, a.row_numbers))
+        return DONE
+    for text in viewing.page(tables, layout, tables[first : first + size].numbers, a.row_numbers):
+        write_out(text)
+    return DONE
+
+
 # ---- pack
 def pack(a: Arguments) -> int:
     """Packs CSV files into a file of document 01, with its names beside it."""
@@ -267,6 +305,8 @@ def what_helps(path: str, refused: Refused) -> str:
         return "it is never given, and docs/answers/12.md says what to look at"
     if refused.number == TOO_MANY_CHOICES:
         return "it is the slow engine's answer, and this program never gives it"
+    if refused.number >= NO_SUCH_RESULT:
+        return "it is an answer of calls for one result, and this program never gives it"
     return "%s has more room" % command_text("join", operand(path))
 
 

@@ -2,7 +2,7 @@
 from typing import Callable, List, Optional, Tuple
 
 from . import fileformat, finding, mending, plans
-from .answers import LAST_OF_PLANS, LAST_OF_RECORDS, MEANINGS, NONE_FOUND, TOO_MANY_CHOICES
+from .answers import LAST_OF_PLANS, LAST_OF_RECORDS, MEANINGS, NONE_FOUND, NOT_A_RESULT, ROW_SHORT, TOO_MANY_CHOICES
 from .fileformat import File
 from .limits import MOST_ATTRIBUTES, MOST_CHOICES, MOST_ROWS, PROGRAM_BYTES
 from .messages import count
@@ -225,8 +225,10 @@ def doubt(file: File, number: int, detail: int) -> Optional[str]:
         return "this file needs %s" % count(plans.words_needed(file.mended.plan, file.tables), "word")
     if number == TOO_MANY_CHOICES and plans.choices(file.tables) <= MOST_CHOICES:
         return "this file has %s" % plans.choices_in_words(file.tables)
-    if number == TOO_MANY_CHOICES and detail:
-        return "the detail of 15 is 0"
+    if number in (TOO_MANY_CHOICES, NOT_A_RESULT) and detail:
+        return "the detail of %d is 0" % number
+    if number == ROW_SHORT and detail != len(plans.width(file.tables)):
+        return "a result of this file has %s" % count(len(plans.width(file.tables)), "value")
     return None
 
 

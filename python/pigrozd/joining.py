@@ -7,7 +7,7 @@ from . import plans
 from .answers import LAST_OF_PLANS, NONE_FOUND, TOO_MANY_CHOICES, Refused
 from .fileformat import File, plan_record, read
 from .files import load
-from .library import Answer, BytesLike, Engine, SlowAnswer
+from .library import Answer, BytesLike, Engine, NumberAnswer, ResultAnswer, SlowAnswer
 from .library import bytes_of, call_slow_with_enough, call_with_enough, engine_named
 from .limits import HIGHEST_COUNT, MOST_CHOICES, MOST_OUTPUT
 from .messages import count
@@ -16,6 +16,8 @@ from .results import Key, Result
 from .tables import GivenTables, records_of
 from .values import Values, column_of_words
 
+GivenFile = Union[str, "os.PathLike[str]", BytesLike]  # its path, or its bytes
+AnyAnswer = Union[Answer, SlowAnswer, ResultAnswer, NumberAnswer]
 
 NO_COUNTS = (None, None, None, None)  # of a result that the slow engine gave
 
@@ -46,19 +48,25 @@ def make_file(tables: GivenTables, plan: Optional[plans.GivenPlan] = None) -> by
     return packed(tables, plan)[0]
 
 
-def join_file(file: Union[str, "os.PathLike[str]", BytesLike], engine: Engine = "join") -> Result:
+def join_file(file: GivenFile, engine: Engine = "join") -> Result:
     """Joins a file: a Result, or Refused. `file` is its path, or its bytes. The engines are those of `join`.
 
     Columns are called by attribute number; with names beside the path (PATH.names, of this very file), by name."""
     engine = engine_named(engine, "engine")
+    return join_bytes(*loaded(file), engine)
+
+
+def loaded(file: GivenFile) -> Tuple[bytes, Names, Optional[Dict[int, Key]]]:
+    """The bytes of a file, given by its path or as bytes; its names, and its attributes by number, or None if they
+    have no names. A warning is about the line that called the caller."""
     if not isinstance(file, (str, os.PathLike)):
-        return join_bytes(bytes_of(file), Names(), engine=engine)
+        return bytes_of(file), Names(), None
     path = os.fsdecode(file)
     data = load(path)
-    names = names_beside(path, data, lambda text: warnings.warn(text, stacklevel=4))
+    names = names_beside(path, data, lambda text: warnings.warn(text, stacklevel=5))
     if not names.attributes:
-        return join_bytes(data, names, engine=engine)
-    return join_bytes(data, names, {a: names.attribute(a) for a in plans.width(read(data).tables)}, engine)
+        return data, names, None
+    return data, names, {a: names.attribute(a) for a in plans.width(read(data).tables)}
 
 
 def packed(tables: GivenTables, plan: Optional[plans.GivenPlan]) -> Tuple[bytes, Names, Dict[int, Key]]:
@@ -100,8 +108,8 @@ def followed(file: File, names: Names) -> Tuple[str, bytes, bool, bool]:
     return text, file.mended.code, not found and file.mended.code != file.code, found
 
 
-def refusal(answer: Union[Answer, SlowAnswer], file: File, names: Names) -> Refused:
-    """The library's refusal of a file, in these names."""
+def refusal(answer: AnyAnswer, file: File, names: Names) -> Refused:
+    """The library's refusal of a file, in these names. 11 is that of a join."""
     number, detail = answer.number, answer.detail
     if number <= LAST_OF_PLANS or number == NONE_FOUND:
         fault = file.fault
@@ -123,10 +131,17 @@ def too_many(results: int, file: File, names: Names) -> str:
         MOST_OUTPUT,
         MOST_OUTPUT // values,
     )
-    for join in plans.joins_of(file.mended.plan) if file.mended else []:
-        if not plans.key(join, file.tables):
-            why += "; the join of %s is on no attribute, so that every pair matches" % plans.sides_of(join, names)
-    return why
+    return why + every_pair(file, names)
+
+
+def every_pair(file: File, names: Names) -> str:
+    """Which joins of the plan that is followed match every pair; nothing if none does."""
+    joins = plans.joins_of(file.mended.plan) if file.mended else []
+    return "".join(
+        "; the join of %s is on no attribute, so that every pair matches" % plans.sides_of(join, names)
+        for join in joins
+        if not plans.key(join, file.tables)
+    )
 
 
 def too_many_choices(file: File) -> str:

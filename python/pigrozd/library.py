@@ -1,19 +1,22 @@
-"""The shared library: found, loaded, and called through ctypes. include/pigrozd.h declares its two functions, the join
-and the slow engine."""
+"""The shared library: found, loaded, and called through ctypes. include/pigrozd.h declares its four functions: the
+join, the slow engine, one result by its number, and the number of a result by its rows."""
 import array
 import ctypes
 import functools
+import operator
 import os
-from typing import Any, Dict, Literal, NamedTuple, Optional, Tuple, Union, cast
+from typing import Any, Dict, Iterable, Literal, NamedTuple, Optional, Tuple, Union, cast
 
 from .fileformat import read
-from .limits import MOST_OUTPUT
+from .limits import MOST_OUTPUT, MOST_TABLES
 from .messages import InputError
 from .plans import width
 
 VARIABLE = "PIGROZD_LIBRARY"
 FILE_NAME = "libpigrozd.so"
 FIRST_OUTPUT = 16384  # words of output lent at first
+HIGHEST_NUMBER = 2**64 - 1  # the highest n that can be given
+HIGHEST_WORD = 2**32 - 1  # the highest row number that can be given
 
 BytesLike = Union[bytes, bytearray, memoryview]
 Engine = Literal["join", "slow"]
@@ -43,6 +46,23 @@ class SlowAnswer(NamedTuple):
     rows: int
 
 
+class ResultAnswer(NamedTuple):
+    """What the library answers of one result: the numbers of struct pigrozd_result_answer. `rows` has 16 row numbers,
+    by table number; those past the last table are 0, and all of them are after a refusal."""
+
+    number: int
+    detail: int
+    rows: Tuple[int, ...]
+
+
+class NumberAnswer(NamedTuple):
+    """What the library answers of the way back: the three numbers of struct pigrozd_number_answer."""
+
+    number: int
+    detail: int
+    n: int
+
+
 class AnswerStruct(ctypes.Structure):
     """struct pigrozd_answer of include/pigrozd.h."""
 
@@ -55,12 +75,31 @@ class SlowAnswerStruct(ctypes.Structure):
     _fields_ = [(name, ctypes.c_uint64) for name in SlowAnswer._fields]
 
 
+class ResultAnswerStruct(ctypes.Structure):
+    """struct pigrozd_result_answer of include/pigrozd.h."""
+
+    _fields_ = [
+        ("number", ctypes.c_uint64),
+        ("detail", ctypes.c_uint64),
+        ("rows", ctypes.c_uint32 * MOST_TABLES),
+    ]
+
+
+class NumberAnswerStruct(ctypes.Structure):
+    """struct pigrozd_number_answer of include/pigrozd.h."""
+
+    _fields_ = [(name, ctypes.c_uint64) for name in NumberAnswer._fields]
+
+
 WORDS = [ctypes.POINTER(ctypes.c_uint32), ctypes.c_size_t]  # a buffer, and how many words it has
 FILE = [ctypes.c_char_p, ctypes.c_size_t]
 JOIN, SLOW = "pigrozd_join", "pigrozd_slow_join"
+RESULT_AT, NUMBER_OF = "pigrozd_result_at", "pigrozd_number_of"
 FUNCTIONS: Dict[str, Tuple[Any, Any]] = {  # what each takes, and what it gives
     JOIN: (FILE + WORDS + WORDS, AnswerStruct),
     SLOW: (FILE + WORDS, SlowAnswerStruct),
+    RESULT_AT: (FILE + WORDS + [ctypes.c_uint64] + WORDS, ResultAnswerStruct),
+    NUMBER_OF: (FILE + WORDS + WORDS, NumberAnswerStruct),
 }
 
 
@@ -111,9 +150,9 @@ def function(name: str) -> Any:
 
 # ---- calling
 def bytes_of(file: BytesLike) -> bytes:
-    """The bytes of a bytes-like object; TypeError for anything else."""
+    """The bytes of a bytes-like object, of which bytes themselves are not copied; TypeError for anything else."""
     try:
-        return memoryview(file).tobytes()
+        return file if isinstance(file, bytes) else memoryview(file).tobytes()
     except TypeError:
         raise TypeError("the bytes of a file are wanted, not a %s" % type(file).__name__) from None
 
@@ -122,14 +161,43 @@ def lent(buffer: Any) -> Tuple[Any, int]:
     """A writable buffer as the words at its address, and how many there are."""
     view = memoryview(buffer)
     if view.itemsize != 4:
-        raise TypeError("scratch and output are buffers of 32-bit words")
+        raise TypeError("what is lent is a buffer of 32-bit words")
     count = view.nbytes // 4
     if count == 0:
         return (ctypes.c_uint32 * 1)(), 0  # an address all the same
     words = (ctypes.c_uint32 * count).from_buffer(buffer)
     if ctypes.addressof(words) % 4:
-        raise ValueError("scratch and output are aligned to 4 bytes")
+        raise ValueError("what is lent is aligned to 4 bytes")
     return words, count
+
+
+def lent_apart(scratch: Any, other: Any, called: str) -> Tuple[Any, int, Any, int]:
+    """The scratch and another buffer as they are lent; an error if they overlap."""
+    scratch_words, scratch_count = lent(scratch)
+    other_words, other_count = lent(other)
+    first, second = ctypes.addressof(scratch_words), ctypes.addressof(other_words)
+    if first < second + 4 * other_count and second < first + 4 * scratch_count:
+        raise ValueError("scratch and %s overlap" % called)
+    return scratch_words, scratch_count, other_words, other_count
+
+
+def whole_number(value: Any, called: str) -> int:
+    """A whole number, of any size; TypeError for anything else."""
+    if not isinstance(value, bool):
+        try:
+            return operator.index(value)
+        except TypeError:
+            pass
+    raise TypeError("%s is a whole number, not %.60r" % (called, value))
+
+
+def number_up_to(highest: int, value: Any, called: str) -> int:
+    """A whole number from 0 to the highest; an error for anything else."""
+    number = whole_number(value, called)
+    if not 0 <= number <= highest:
+        told = str(number) if number.bit_length() <= 128 else "a longer number"
+        raise InputError("%s is 0 to %d, not %s" % (called, highest, told))
+    return number
 
 
 def call(file: BytesLike, scratch: Any, output: Any) -> Answer:
@@ -137,12 +205,7 @@ def call(file: BytesLike, scratch: Any, output: Any) -> Answer:
 
     It is given the bytes of a file and two writable buffers of 32-bit words, such as array.array('I')."""
     data = bytes_of(file)
-    scratch_words, scratch_count = lent(scratch)
-    output_words, output_count = lent(output)
-    first, second = ctypes.addressof(scratch_words), ctypes.addressof(output_words)
-    if first < second + 4 * output_count and second < first + 4 * scratch_count:
-        raise ValueError("scratch and output overlap")
-    given = function(JOIN)(data, len(data), scratch_words, scratch_count, output_words, output_count)
+    given = function(JOIN)(data, len(data), *lent_apart(scratch, output, "output"))
     return Answer(*(getattr(given, name) for name in Answer._fields))
 
 
@@ -153,6 +216,31 @@ def call_slow(file: BytesLike, output: Any) -> SlowAnswer:
     data = bytes_of(file)
     given = function(SLOW)(data, len(data), *lent(output))
     return SlowAnswer(*(getattr(given, name) for name in SlowAnswer._fields))
+
+
+def call_result_at(file: BytesLike, scratch: Any, n: int, row: Any) -> ResultAnswer:
+    """One call for result number n, from 0, without the others: its ResultAnswer, refusals too.
+
+    It is given the bytes of a file, n, which is at most 2**64 - 1, and two writable buffers of 32-bit words, such as
+    array.array('I'). The scratch is needed as by `call`. After answer 0 the row buffer begins with the values of the
+    result, one for each attribute, attributes rising; the words behind them are as they were."""
+    data = bytes_of(file)
+    number = number_up_to(HIGHEST_NUMBER, n, "the number of a result")
+    scratch_words, scratch_count, *row_lent = lent_apart(scratch, row, "row")
+    given = function(RESULT_AT)(data, len(data), scratch_words, scratch_count, number, *row_lent)
+    return ResultAnswer(given.number, given.detail, tuple(given.rows))
+
+
+def call_number_of(file: BytesLike, scratch: Any, rows: Iterable[int]) -> NumberAnswer:
+    """One call for the number of the result that is made of these rows: its NumberAnswer, refusals too.
+
+    It is given the bytes of a file, a writable buffer of 32-bit words, which is needed as scratch as by `call`, and
+    the row number of each table, by table number: numbers from 0 to 2**32 - 1, however many."""
+    data = bytes_of(file)
+    numbers = [number_up_to(HIGHEST_WORD, row, "a row number") for row in rows]
+    words = (ctypes.c_uint32 * max(len(numbers), 1))(*numbers)  # an address also where there is none
+    given = function(NUMBER_OF)(data, len(data), *lent(scratch), words, len(numbers))
+    return NumberAnswer(given.number, given.detail, given.n)
 
 
 def zeros(count: int) -> "array.array[int]":

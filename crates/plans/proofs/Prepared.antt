@@ -26,6 +26,7 @@ use Rattle.scheduling.specs.Schedules.{Schedule, rowCounts, turnsIn, placements
 use Rattle.plans.specs.Admissions.{verdictOf, scheduleFor, Decided, decidedOf, AdmittedAs, AdmittedOf}
 use Rattle.plans.specs.Prepared.{Sized, Prepared}
 use Rattle.scheduling.proofs.Growing.{turns-length}
+use Rattle.scheduling.proofs.Tops.{top-placed}
 use Rattle.scheduling.proofs.ByPosition.{schedule-joins, schedule-first, turns-below, parents-below}
 
 -- ---- the answer `admitted` comes with a catalog and a schedule
@@ -113,6 +114,7 @@ module _ (bytes : List ℕ) (words : ℕ) (ts : List Table) (p : Plan) (v : verd
         table = table-at;
         count = turns-length p 0;
         turns = refl;
+        top = top-placed p (padded (turnsIn p 0)) (length (turnsIn p 0)) refl (turns-length p 0);
         named = refl;
         order = refl;
         positions = schedule-joins masks (rowCounts rows) p named;

@@ -10,10 +10,10 @@ use Rattle.semantics.specs.Plans.{Plan, tables, leftmost}
 use Rattle.semantics.specs.Shapes.{noTable, shapeOf}
 use Rattle.words.specs.Arrays.{padded}
 use Rattle.storage.specs.Layout.{storageSize, storage}
-use Rattle.storage.specs.Positions.{WordsAt}
+use Rattle.storage.specs.Positions.{topAt, WordsAt}
 use Rattle.tables.specs.declared.Catalog.{Catalog}
 use Rattle.tables.specs.Catalogs.{tableAt}
-use Rattle.scheduling.specs.Schedules.{Schedule, rowCounts, turnsIn}
+use Rattle.scheduling.specs.Schedules.{Schedule, rowCounts, turnsIn, topIn}
 use Rattle.scheduling.specs.ByPosition.{JoinsPlaced}
 
 -- the arrays of the catalog have 16 places each
@@ -33,6 +33,7 @@ pub record Prepared (bytes : List ℕ) (words : ℕ) (c : Catalog) (s : Schedule
   -- the schedule: its joins in post-order, its tables in plan order, and each join by its position
   pub count : s .joins ≡ joins p
   pub turns : s .turns ≡ padded (turnsIn p 0)
+  pub top : topIn (s .turns) (s .joins) ≡ topAt p 0
   pub named : s .tables ≡ length (tables p)
   pub order : s .order ≡ padded (tables p)
   pub positions : JoinsPlaced s (c .masks) (rowCounts (c .rows)) p 0 0

@@ -1,6 +1,8 @@
 // Joins each sample that the arguments name, in their order, with both engines, and prints its name, the answers, and what the
-// buffers hold afterwards. A sample is a file of data/: two 4-byte numbers, the words of scratch and of output to lend, and then the
+// buffers hold afterwards; then results by their numbers, with the way back. A sample is a file of data/: two 4-byte numbers, the words
+// of scratch and of output to lend, and then the
 // file to join. tests/make_samples.py writes the samples, the arguments and the output expected.
+use capi_access::pigrozd_result_answer;
 use libc::STDOUT_FILENO;
 
 // What every word of the buffers holds before a call. No sample has it as a value.
@@ -73,13 +75,114 @@ fn try_choices(file: &[u8], joined: &[u32], output: &mut [u32]) {
     }
 }
 
+// Lends a buffer again.
+fn fill(words: &mut [u32]) {
+    let mut i = 0;
+    while i < words.len() {
+        words[i] = BEFORE;
+        i += 1;
+    }
+}
+
+fn wide(x: u32) -> u64 {
+    x as u64
+}
+
+fn print_numbers(numbers: &[u32]) {
+    let mut i = 0;
+    while i < numbers.len() {
+        io::write_all(STDOUT_FILENO, b" ");
+        io::print_decimal(STDOUT_FILENO, wide(numbers[i]));
+        i += 1;
+    }
+}
+
+// How many row numbers lead back to result number n: so many as there are tables, and no other number of them.
+fn print_ways_back(file: &[u8], scratch: &mut [u32], rows: &[u32], n: u64) {
+    io::write_all(STDOUT_FILENO, b", back by");
+    let mut k = 0;
+    while k <= rows.len() {
+        let answer = capi_access::pigrozd_number_of(file, scratch, &rows[..k]);
+        if answer.number == 0 {
+            io::write_all(STDOUT_FILENO, b" ");
+            io::print_decimal(STDOUT_FILENO, k as u64);
+            if answer.n != n {
+                io::write_all(STDOUT_FILENO, b" to another result");
+            }
+        }
+        k += 1;
+    }
+    io::write_all(STDOUT_FILENO, b"\n");
+}
+
+// What the way back answers to no row numbers.
+fn print_no_way_back(file: &[u8], scratch: &mut [u32]) {
+    let answer = capi_access::pigrozd_number_of(file, scratch, &[]);
+    io::write_all(STDOUT_FILENO, b", back ");
+    io::print_decimal(STDOUT_FILENO, answer.number);
+    io::write_all(STDOUT_FILENO, b" ");
+    io::print_decimal(STDOUT_FILENO, answer.detail);
+    io::write_all(STDOUT_FILENO, b"\n");
+}
+
+// The answer to result number n, with buffers that are lent again.
+fn ask_result(file: &[u8], scratch: &mut [u32], row: &mut [u32], n: u64) -> pigrozd_result_answer {
+    fill(&mut *scratch);
+    fill(&mut *row);
+    capi_access::pigrozd_result_at(file, scratch, n, row)
+}
+
+// The answer, its row numbers, and what the buffers hold then.
+fn print_answer(n: u64, number: u64, detail: u64, rows: &[u32], scratch: &[u32], row: &[u32]) {
+    io::write_all(STDOUT_FILENO, b"result ");
+    io::print_decimal(STDOUT_FILENO, n);
+    io::write_all(STDOUT_FILENO, b": ");
+    io::print_decimal(STDOUT_FILENO, number);
+    io::write_all(STDOUT_FILENO, b" ");
+    io::print_decimal(STDOUT_FILENO, detail);
+    io::write_all(STDOUT_FILENO, b", rows");
+    print_numbers(rows);
+    io::write_all(STDOUT_FILENO, b", ");
+    print_scratch(scratch);
+    print_output(row);
+}
+
+// Result number n, and the way back from it. Gives the number of results where n is not below it, else 0.
+fn show_result(file: &[u8], scratch: &mut [u32], row: &mut [u32], n: u64) -> u64 {
+    let answer = ask_result(file, &mut *scratch, &mut *row, n);
+    let rows = answer.rows;
+    print_answer(n, answer.number, answer.detail, &rows, &*scratch, &*row);
+    if answer.number == 0 {
+        print_ways_back(file, scratch, &rows, n);
+        return 0;
+    }
+    print_no_way_back(file, scratch);
+    if answer.number == 16 {
+        answer.detail
+    } else {
+        0
+    }
+}
+
+// Past the last result, and where there are some and not many, the first, the middle and the last one.
+fn show_results(file: &[u8], scratch: &mut [u32], row: &mut [u32]) {
+    let count = show_result(file, &mut *scratch, &mut *row, 18446744073709551615);
+    if count == 0 || 4096 < count {
+        return;
+    }
+    show_result(file, &mut *scratch, &mut *row, 0);
+    show_result(file, &mut *scratch, &mut *row, count / 2);
+    show_result(file, scratch, row, count - 1);
+}
+
 // Both engines: the answer of the join, what its buffers hold then, and the slow engine beside it.
 fn join_with(file: &[u8], scratch: &mut [u32], joined: &mut [u32], slow: &mut [u32]) {
-    report::report(file, scratch, joined);
-    print_scratch(scratch);
-    print_output(joined);
+    report::report(file, &mut *scratch, &mut *joined);
+    print_scratch(&*scratch);
+    print_output(&*joined);
     io::write_all(STDOUT_FILENO, b"\n");
-    try_choices(file, joined, slow);
+    try_choices(file, joined, &mut *slow);
+    show_results(file, scratch, slow);
 }
 
 // Lends as many words as the sample says.

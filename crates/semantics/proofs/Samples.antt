@@ -14,6 +14,7 @@ use Rattle.semantics.specs.Totals.{holdLimit, held, group, countedTotal}
 use Rattle.semantics.specs.Counts.{enteredKeys, soughtKeys, entries, lookups, comparisons, visits}
 use Rattle.semantics.specs.Outcome.{sentVerdict, foundVerdict, asksForPlan, planVerdict, readVerdict, rulesVerdict, scratchVerdict, verdict, zeros, joinedAnswer, joinOutcome, outcome, figuresOf, figures}
 use Rattle.semantics.specs.Exhaustive.{choiceCount, choicesVerdict, slowVerdict, choicesOutcome, slowOutcome}
+use Rattle.semantics.specs.Access.{resultAt, numberOf, rowsByTable, choiceOf, namesResult, tooMany, resultGiven, resultPastTen, resultOutcome, numberPastTen, numberOutcome}
 use Rattle.semantics.specs.Samples.{samples, seen, expected, sampleFile, sampleBytes}
 
 -- the sample file is the 126 bytes of document 01
@@ -21,5 +22,5 @@ pub sample-bytes : (sampleFile ≡ sampleBytes) × (length sampleBytes ≡ 126)
 sample-bytes = (refl, refl)
 
 pub samples-hold : map seen samples ≡ map expected samples
-unfolding seen expected slowOutcome choicesOutcome slowVerdict choicesVerdict choiceCount outcome figures figuresOf joinOutcome joinedAnswer zeros verdict scratchVerdict rulesVerdict readVerdict planVerdict asksForPlan foundVerdict sentVerdict eliminate parentOf sharedAttributes sharedIn lowest without visits comparisons lookups entries soughtKeys enteredKeys countedTotal group held holdLimit compared bitAt matches entered walked recordedKey recorded rightKey leftKey key participants tuple results agrees rowNumbers baseOf outputFits scratchNeed width rowsIn leftRows mend penalty mendedRoot leftRoot rightRoot chosen hang topmost holders holdsAll bothHold joinAttributes shared holds shapeOf attributes planOf read readFrom planRecord tableRecord markOf value columnStart columnBytes arity onesBelow hasBit bit wordAt upTo
+unfolding seen expected resultOutcome resultPastTen resultGiven numberOutcome numberPastTen tooMany namesResult choiceOf rowsByTable numberOf resultAt slowOutcome choicesOutcome slowVerdict choicesVerdict choiceCount outcome figures figuresOf joinOutcome joinedAnswer zeros verdict scratchVerdict rulesVerdict readVerdict planVerdict asksForPlan foundVerdict sentVerdict eliminate parentOf sharedAttributes sharedIn lowest without visits comparisons lookups entries soughtKeys enteredKeys countedTotal group held holdLimit compared bitAt matches entered walked recordedKey recorded rightKey leftKey key participants tuple results agrees rowNumbers baseOf outputFits scratchNeed width rowsIn leftRows mend penalty mendedRoot leftRoot rightRoot chosen hang topmost holders holdsAll bothHold joinAttributes shared holds shapeOf attributes planOf read readFrom planRecord tableRecord markOf value columnStart columnBytes arity onesBelow hasBit bit wordAt upTo
 samples-hold = refl

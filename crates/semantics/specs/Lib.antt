@@ -12,4 +12,5 @@ pub mod Counts
 pub mod Bags
 pub mod Outcome
 pub mod Exhaustive
+pub mod Access
 pub mod Samples

@@ -1,6 +1,7 @@
 pub mod Cases
 pub mod Lists
 pub mod Numbers
+pub mod Members
 pub mod SearchTrees
 pub mod KeyBits
 pub mod Agreement
@@ -11,6 +12,8 @@ pub mod TakingPart
 pub mod Totals
 pub mod Enumeration
 pub mod Steps
+pub mod ResultBlocks
+pub mod ExactTotals
 pub mod Bound
 pub mod Spelling
 pub mod Misplaced
@@ -33,6 +36,8 @@ pub mod FoundPlans
 pub mod Eliminating
 pub mod LastRoots
 pub mod Choices
+pub mod RowsByTable
+pub mod ResultNumbers
 pub mod Reading
 pub mod Values
 pub mod Rules
@@ -43,6 +48,7 @@ pub mod Answers
 pub mod ChoiceNumbers
 pub mod RowProducts
 pub mod Engines
+pub mod Access
 pub mod Bags
 pub mod MendedBags
 pub mod FileBags

@@ -120,3 +120,9 @@ sum-from-one t i zero a b = absurd (omega arith)
 sum-from-one t i (suc n) a b =
     cases (eqb t i) (λ e. rw e (omega (arith, sum-below t (suc i) n (omega (arith, eqb-true t i e)))))
     (λ e. let d : (t ≡ i → ⊥) = eqb-false t i e in rw e (omega (arith, sum-from-one t (suc i) n (omega arith) (omega arith))))
+
+pub sum-at-most-one : (t i n : ℕ) → sum (λ x. oneIf (eqb t x)) (from i n) ≤ 1
+sum-at-most-one t i zero = omega arith
+sum-at-most-one t i (suc n) =
+    cases (eqb t i) (λ e. rw e (omega (arith, sum-below t (suc i) n (omega (arith, eqb-true t i e)))))
+    (λ e. rw e (omega (arith, sum-at-most-one t (suc i) n)))

@@ -1,6 +1,8 @@
 -- What is said of the elements of a list: properties of each, orders, the same list in another order.
+use mathlib.Core.Path.{_≡_}
 use mathlib.Core.Bool.{Bool, true, false}
 use mathlib.Core.List.{List, [], _∷_, _++_}
+use mathlib.Core.Logic.{_⊎_}
 use Prim.Native.Nat.{ℕ, _<_}
 use lib.Dec.{eqb}
 use Rattle.semantics.specs.Lists.{any}
@@ -19,6 +21,11 @@ module _ {A : Type 0} where
   abbrev pub Each : (A → Type 0) → List A → Type 0
   Each P [] = Unit {0}
   Each P (x ∷ xs) = P x × Each P xs
+
+  -- the element stands in the list
+  abbrev pub In : A → List A → Type 0
+  In z [] = ⊥
+  In z (x ∷ xs) = (x ≡ z) ⊎ In z xs
 
 -- the number stands in the list
 abbrev pub member : List ℕ → ℕ → Bool

@@ -8,5 +8,7 @@ pub mod Orders
 pub mod Rows
 pub mod Enumeration
 pub mod ChoiceNumbers
+pub mod ResultBlocks
 pub mod Details
 pub mod Engines
+pub mod Access

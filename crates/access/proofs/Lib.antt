@@ -1,0 +1,9 @@
+pub mod SpineTotals
+pub mod ListedRows
+pub mod ChosenRows
+pub mod WalkedRows
+pub mod PlacedRows
+pub mod GroupedWalks
+pub mod NumberableFiles
+pub mod ShownResults
+pub mod Calls

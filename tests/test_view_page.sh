@@ -1,0 +1,111 @@
+#!/bin/sh
+# Tests examples/c/view_page.c, built as $1: on the sample file it prints what is expected; on the file of every sample its pages are
+# those of the rows that examples/c/join_file.c, built as $2, prints, and what that refuses before 11 it refuses alike; each number is
+# found back; and its status says what became of the page. make check-c runs it from the top of the repository.
+set -u
+view_page=$1
+join_file=$2
+room=$(mktemp -d) || exit 1
+trap 'rm -rf "$room"' EXIT
+failures=0
+
+fail() {
+    echo "test_view_page: $*"
+    failures=$((failures + 1))
+}
+
+# STATUS LINES ARGUMENT..: the page is these lines, and the status this one
+shown() {
+    wanted=$1
+    lines=$2
+    shift 2
+    printed=$("$view_page" "$@" 2>/dev/null)
+    status=$?
+    [ "$status" -eq "$wanted" ] || fail "$*: status $status and not $wanted"
+    [ "$printed" = "$lines" ] || fail "$*: another page: $printed"
+}
+
+# FILE N: the values of the page from number N on are those rows of $room/joined, which has a line before them
+compare() {
+    "$view_page" "$1" "$2" >"$room/printed" || fail "$sample from $2 on: status $?"
+    head -n 1 "$room/joined" | sed 's/^rows/results/' >"$room/wanted"
+    sed '1d; $d' "$room/joined" | tail -n +$(($2 + 1)) | head -n 40 | awk -v n="$2" '{ print n + NR - 1 ": " $0 }' >>"$room/wanted"
+    sed 's/ (rows [0-9 ]*)$//' "$room/printed" | cmp -s - "$room/wanted" || fail "$sample from $2 on: another page than the join's rows"
+}
+
+# the sample file, from its first result on and from a later one, and past its last
+sample=crates/pigrozd/stdin
+"$view_page" $sample >"$room/printed" || fail "the sample file is not shown"
+diff examples/c/expected_page "$room/printed" || fail 'the sample file has another page'
+shown 0 "$(cat examples/c/expected_page)" $sample 0
+shown 0 "$(sed 2,3d examples/c/expected_page)" $sample 2
+shown 1 'refused 16 4' $sample 4
+shown 1 'refused 16 4' $sample 18446744073709551615
+
+# every sample: the first page, one in the middle, and the last result
+compared=0
+refused=0
+for sample in crates/samples/data/*; do
+    tail -c +9 "$sample" >"$room/file"
+    "$join_file" <"$room/file" >"$room/joined"
+    read -r word number detail <"$room/joined"
+    case "$word $number" in
+    'rows 0') shown 1 'refused 16 0' "$room/file" ;;
+    rows*)
+        for first in 0 $((number / 2)) $((number - 1)); do
+            compare "$room/file" "$first"
+        done
+        compared=$((compared + 1))
+        ;;
+    'refused 11')
+        if [ "$detail" = 4294967295 ]; then
+            shown 1 'refused 11 4294967295' "$room/file"
+        else
+            [ "$("$view_page" "$room/file" $((detail - 1)) | head -n 1)" = "results $detail" ] || fail "$sample: another number of results"
+            shown 1 "refused 16 $detail" "$room/file" "$detail"
+        fi
+        ;;
+    refused*)
+        shown 1 "$word $number $detail" "$room/file"
+        refused=$((refused + 1))
+        ;;
+    *) fail "$sample: the join prints $word" ;;
+    esac
+done
+[ "$compared" -gt 100 ] || fail "the pages of only $compared samples were compared"
+[ "$refused" -gt 50 ] || fail "only $refused samples were refused"
+
+# two tables of 200 rows with one value: 40,000 results, from 4,000 on, and the last ten
+{
+    for table in 0 1; do
+        printf 'TB\001\000\000\000\310\000\000\000'
+        head -c 800 /dev/zero
+    done
+    printf 'PL\003\377\000\001'
+} >"$room/large"
+"$view_page" "$room/large" 4000 >"$room/printed" || fail 'the large file is not shown'
+[ "$(wc -l <"$room/printed")" -eq 41 ] || fail 'the large file has another number of lines'
+[ "$(sed -n '1p; 2p; $p' "$room/printed" | tr '\n' ' ')" = 'results 40000 4000: 0 (rows 20 0) 4039: 0 (rows 20 39) ' ] ||
+    fail 'the large file has another page'
+"$view_page" "$room/large" 39990 >"$room/printed" || fail 'the large file has no last page'
+[ "$(sed -n '2p; $p' "$room/printed" | tr '\n' ' ')" = '39990: 0 (rows 199 190) 39999: 0 (rows 199 199) ' ] ||
+    fail 'the large file has another last page'
+
+# what is no number, and a file that is not there
+for number in '' -1 +1 ' 1' 0x1 1.0 1e3 18446744073709551616; do
+    shown 2 '' crates/pigrozd/stdin "$number"
+done
+shown 2 ''
+shown 2 '' crates/pigrozd/stdin 0 0
+shown 2 '' "$room/none"
+shown 2 '' "$room"
+
+# a page that is lost
+if [ -e /dev/full ]; then
+    "$view_page" "$room/large" >/dev/full 2>/dev/null
+    [ $? -eq 2 ] || fail 'a full device is not status 2'
+fi
+"$view_page" "$room/large" >&- 2>/dev/null
+[ $? -eq 2 ] || fail 'a closed output is not status 2'
+
+[ "$failures" -eq 0 ]
