@@ -25,7 +25,7 @@ def words(*values):
 
 class Calls(unittest.TestCase):
     def printed(self, file, scratch_words, output_words):
-        """What the test program crates/samples prints of one call, of one of the slow engine, and of results by number."""
+        """What the test program crates/samples prints of a call, of the slow engine, and of results by number."""
         scratch, output = words(BEFORE) * scratch_words, words(BEFORE) * output_words
         answer = pigrozd.call(file, scratch, output)
         width = len(plans.width(fileformat.read(bytes(file)).tables))

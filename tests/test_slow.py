@@ -479,7 +479,7 @@ class Documents(Engine, Folder):
 
 class Objects(Folder):
     def test_a_program_with_the_join_alone(self):
-        """It has nothing of the slow engine nor of results by number in it: these are objects of their own in the library."""
+        """It has nothing of the slow engine nor of results by number in it: these are objects of their own."""
         text = '#include "pigrozd.h"\nvoid *volatile f = (void *)pigrozd_join;\nint main(void) { return !f; }\n'
         source = self.write("f.c", text)
         compiler, library = os.environ.get("CC", "cc"), os.path.join(TOP, "target", "lib", "libpigrozd.a")
