@@ -342,6 +342,37 @@ fn fan_out(n: usize, seed: u64) -> Input {
     Input::new(tables, left_deep(2))
 }
 
+/// A star in which each row of the middle table finds as many rows as `each` in each of the other ones.
+fn fan_out_star(k: usize, each: usize, n: usize, seed: u64) -> Input {
+    let mut r = Random(seed);
+    let (others, keys) = (k as u32 - 1, n / each);
+    let mut tables = vec![table((0..others).map(|a| (a, r.dense(n, keys))).collect())];
+    for a in 0..others {
+        tables.push(table(vec![(a, r.column(n, |_, y| (y % keys) as u32)), (others + a, r.any(n))]));
+    }
+    Input::new(tables, left_deep(k))
+}
+
+/// A chain in which the rows of the last result are the last ones of long lists. The last row of a table finds all rows of the next
+/// one but its first, and every other row finds the first alone.
+fn long_lists(k: usize, n: usize) -> Input {
+    let found = (0..n).map(|y| u32::from(y > 0)).collect::<Vec<_>>();
+    let finds = (0..n).map(|y| u32::from(y + 1 == n)).collect::<Vec<_>>();
+    let tables = (0..k as u32).map(|i| table(vec![(i, found.clone()), (i + 1, finds.clone())])).collect();
+    Input::new(tables, right_deep(k))
+}
+
+/// A star with one row in each table but the middle one, which all rows of that one find.
+fn long_spine(k: usize, n: usize, seed: u64) -> Input {
+    let mut r = Random(seed);
+    let keys = (k as u32 - 1).min(8);
+    let mut tables = vec![table((0..keys).map(|a| (a, vec![a; n])).collect())];
+    for j in 0..k as u32 - 1 {
+        tables.push(table(vec![(j % keys, vec![j % keys]), (keys + j, r.any(1))]));
+    }
+    Input::new(tables, left_deep(k))
+}
+
 /// The same tables and plan, with one value in 16 not recorded: keys, and values that one table alone has.
 fn partly_recorded(input: Input, seed: u64) -> Input {
     let mut r = Random(!seed);
@@ -541,5 +572,23 @@ pub fn few_choices() -> Vec<Case> {
     add("one partner, chain of 16", &[1, 2], |n, seed| one_partner(16, n, seed));
     add("few rows before 4096", &[0, 1, 2, 3, 4], |n, seed| few_before(n, 4096, seed));
     add("scratch of 16384, chain of 2", &[1, 4, 8, 12, 16], |n, seed| longer_scratch(one_partner(2, n, seed)));
+    all
+}
+
+/// Files whose results are reached by their numbers, shape after shape.
+pub fn by_number() -> Vec<Case> {
+    let mut all = Vec::new();
+    let mut add = |shape: &str, sizes: &[usize], make: fn(usize, u64) -> Input| {
+        all.extend(sizes.iter().map(|&n| case(shape, n, move |seed| make(n, seed))));
+    };
+    add("star of 5", &[64, 512, 4096], |n, seed| star(5, n, seed));
+    add("star of 16", &[4096], |n, seed| star(16, n, seed));
+    add("fan-out of 2", &[512, 4096], fan_out);
+    add("one table", &[4096], |n, seed| one_partner(1, n, seed));
+    add("nothing shared by 2", &[16, 64, 128, 256, 512], |n, seed| Input::new(nothing_shared(2, n, seed).tables, left_deep(2)));
+    add("long lists, chain of 9", &[4096], |n, _| long_lists(9, n));
+    add("long spine, star of 16", &[4096], |n, seed| long_spine(16, n, seed));
+    add("fan-out star of 3", &[4096], |n, seed| fan_out_star(3, 16, n, seed));
+    add("fan-out star of 4", &[4096], |n, seed| fan_out_star(4, 64, n, seed));
     all
 }

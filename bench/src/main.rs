@@ -2,13 +2,16 @@
 //! one run. Where the bench says library, it means the join, pigrozd_join.
 //!
 //!     bench [NAME]              the tables: times as ratios, growth, instructions; what mending a plan and finding one cost; from
-//!                               which size on the join costs less than the slow engine; of the files whose names have NAME in them
+//!                               which size on the join costs less than the slow engine; what results by number cost; of the
+//!                               files whose names have NAME in them
 //!     bench --quick [NAME]      the tables without instructions
 //!     bench --check [NAME]      no times: whether all give the same results
 //!     bench --once [NAME]       each file once by the library, the twin and the slow engine, for callgrind; then those with mended
 //!                               plans, those without plans, those with found ones, and those of few choices
+//!     bench --numbered [NAME]   each file of the last table once, its results by number, for callgrind
 //!     bench --files FOLDER      writes the files
 
+mod access;
 mod finding;
 mod hashmap;
 mod inputs;
@@ -28,6 +31,7 @@ use std::time::{Duration, Instant};
 
 use inputs::{choices, Case, Input, Table};
 use library::{Answer, SlowAnswer};
+use plans::Plan;
 use sqlite::{Order, Query};
 
 /// The longest output that document 01 uses.
@@ -39,8 +43,15 @@ const SMALL_FILES: u64 = 20_000;
 /// The most choices of a small file that the slow engine is tried on, but for those that it refuses.
 const SMALL_CHOICES: u64 = 100_000;
 
+/// The most results of a small file that are reached by number.
+const SMALL_RESULTS: usize = 32;
+
 /// Instructions for one file: of the library, the twin and the slow engine.
 type Counts = [u64; 3];
+
+/// The functions whose instructions are counted. No two of these patterns begin alike: callgrind 3.19 loses one of two such.
+const CONTESTANTS: [&str; 3] = ["pigrozd_join", "twin_join", "*_slow_join"];
+const BY_NUMBER: [&str; 3] = ["pigrozd_join", "*_result_at", "?igrozd_number_of"];
 
 /// Buffers for one file. They are lent as the run before left them: the join zeroes its scratch itself, before and after.
 struct Buffers {
@@ -63,7 +74,7 @@ fn summary(values: &[u32], width: usize) -> (usize, u64) {
 }
 
 /// The results' values. Panics where two contestants give different ones; the twin must agree with the library in every word and
-/// count, the slow engine in the answer and every word of the output.
+/// count, the slow engine in the answer and every word of the output, and results by number in row numbers and values.
 fn check(name: &str, input: &Input, queries: [&mut Query; 2]) -> Vec<u32> {
     let (mut one, mut two) = (Buffers::new(input), Buffers::new(input));
     one.scratch.fill(5);
@@ -77,6 +88,7 @@ fn check(name: &str, input: &Input, queries: [&mut Query; 2]) -> Vec<u32> {
         check_partner(name, &partner, &answer, &one.output);
     }
     slow::check(name, &input.file, choices(&input.tables), (&answer, &one.output), &mut vec![0; OUTPUT_WORDS]);
+    access::check(name, input, (&answer, &one.output));
     let values = one.output[..answer.rows as usize * input.width].to_vec();
     let expected = summary(&values, input.width);
     assert_eq!(expected, summary(&hashmap::join(&input.file, input.given()), input.width), "{name}: HashMap");
@@ -117,15 +129,17 @@ fn limit(file: &[u8], values: &[u32], output: &mut [u32]) -> u32 {
     file.chunks_exact(4).fold(0, |s, w| s ^ u32::from_le_bytes(w.try_into().unwrap()))
 }
 
-/// The twin and the slow engine must refuse what the library refuses, with the same answer: every cut of a file, and every value of
-/// every byte. The file is so short that it never has too many choices.
-fn check_damaged(file: &[u8]) {
+/// The twin, the slow engine and the functions for results by number must refuse what the library refuses, with the same answer: every
+/// cut of a file, and every value of every byte. The file is so short that it never has too many choices.
+fn check_damaged(sample: &Input) {
+    let file = &sample.file;
     let agree = |bytes: &[u8]| {
         let (mut s, mut o) = ([7; 96], [7; 16]);
         let (mut t, mut p, mut q) = (s, o, o);
         let answer = library::join(bytes, &mut s, &mut o);
         assert_eq!((answer, s, o), (twin::twin_join(bytes, &mut t, &mut p), t, p), "{bytes:?}");
         slow::check(bytes, bytes, 0, (&answer, &o), &mut q);
+        access::check_bytes(bytes, sample.tables.len(), s.len(), (&answer, &o));
     };
     for end in 0..file.len() {
         agree(&file[..end]);
@@ -140,44 +154,61 @@ fn check_damaged(file: &[u8]) {
 /// The twin and the slow engine must do with any plan what the library does: small files of up to 16 tables, with buffers that are too
 /// short for some.
 fn check_plans() {
-    let (mut mended, mut refused, mut slow) = (0, 0, Vec::new());
+    let (mut mended, mut refused, mut small) = (0, 0, Vec::new());
     for seed in 0..SMALL_FILES {
         let (tables, plan) = small::tables_and_plan(1 + seed as usize % 16, seed);
-        let (answer, slow_answer) = check_small(&tables, &plan.code());
-        refused += u64::from(answer.number == 9);
         mended += u64::from(plan.mended(&tables).is_some_and(|m| m != plan));
-        slow.extend(slow_answer);
+        small.push(check_small(tables, Some(plan)));
+        refused += u64::from(small[seed as usize].answer.number == 9);
     }
     println!("{SMALL_FILES} small files: library and twin agree; {mended} plans mended, {refused} refused by answer 9");
-    println!("{}", slow::agreed(&slow));
+    print_agreed(&small);
 }
 
 /// The twin and the slow engine must find the plan that the library finds for small files without one, and join by it, or refuse as
 /// the library does.
 fn check_found() {
-    let (mut found, mut refused, mut slow) = (0, 0, Vec::new());
-    for seed in 0..SMALL_FILES {
-        let (answer, slow_answer) = check_small(&small::tables_alone(1 + seed as usize % 16, seed), &[]);
-        refused += u64::from(answer.number == 14);
-        found += u64::from(answer.number != 14);
-        slow.extend(slow_answer);
-    }
+    let tables = |seed| small::tables_alone(1 + seed as usize % 16, seed);
+    let small: Vec<Small> = (0..SMALL_FILES).map(|seed| check_small(tables(seed), None)).collect();
+    let refused = small.iter().filter(|s| s.answer.number == 14).count();
+    let found = small.len() - refused;
     println!(
         "{SMALL_FILES} small files without a plan: library and twin agree; {found} plans found, {refused} refused by answer 14"
     );
-    println!("{}", slow::agreed(&slow));
+    print_agreed(&small);
 }
 
-/// The answer of library and twin, which must agree in it and in the buffers; and the slow engine's, where it is compared.
-fn check_small(tables: &[Table], code: &[u8]) -> (Answer, Option<SlowAnswer>) {
-    let file = inputs::bytes(tables, code);
+/// What was compared of a small file: the answer of library and twin, the slow engine's where it was tried, and how many results were
+/// reached by number.
+struct Small {
+    answer: Answer,
+    slow: Option<SlowAnswer>,
+    reached: usize,
+}
+
+fn print_agreed(small: &[Small]) {
+    println!("{}", slow::agreed(&small.iter().filter_map(|s| s.slow).collect::<Vec<_>>()));
+    println!("{}", access::agreed(&small.iter().map(|s| s.reached).collect::<Vec<_>>()));
+}
+
+/// Library and twin must agree in the answer and in the buffers, the slow engine and results by number with both.
+fn check_small(tables: Vec<Table>, plan: Option<Plan>) -> Small {
+    let file = inputs::bytes(&tables, &plan.as_ref().map_or(Vec::new(), Plan::code));
     let (mut s, mut o) = ([7; 500], [7; 2000]);
     let (mut t, mut p, mut q) = (s, o, o);
     let answer = library::join(&file, &mut s, &mut o);
     assert_eq!((answer, s, o), (twin::twin_join(&file, &mut t, &mut p), t, p), "{file:?}");
-    let count = choices(tables);
+    let count = choices(&tables);
     let tried = count <= SMALL_CHOICES || slow::too_many(count);
-    (answer, if tried { slow::check(&file, &file, count, (&answer, &o), &mut q) } else { None })
+    let slow = if tried { slow::check(&file, &file, count, (&answer, &o), &mut q) } else { None };
+    let reached = if access::grouped(&answer) {
+        let input = plan.map_or_else(|| Input::without_plan(tables.clone()), |plan| Input::new(tables.clone(), plan));
+        access::check_small(&file, &input, SMALL_RESULTS, (&answer, &o))
+    } else {
+        access::check_bytes(&file, tables.len(), s.len(), (&answer, &o));
+        0
+    };
+    Small { answer, slow, reached }
 }
 
 /// A file's results' values, by `check` with databases of its own.
@@ -192,7 +223,7 @@ fn check_all<'a>(cases: impl Iterator<Item = &'a Case>) {
         let input = case.first();
         let results = check_alone(&case.name(), &input).len() / input.width;
         if case.shape == "sample" {
-            inputs::samples().iter().for_each(|s| check_damaged(&s.file));
+            inputs::samples().iter().for_each(check_damaged);
             check_plans();
             check_found();
         }
@@ -243,29 +274,29 @@ fn times(contestants: &mut [&mut dyn FnMut()]) -> Vec<Duration> {
     least
 }
 
-/// Instructions of the library, the twin and the slow engine for each file, by callgrind, or nothing where there is no valgrind.
-fn instructions(count: usize, name: &str) -> Option<Vec<Counts>> {
+/// Instructions of calls that the bench makes with this mode and name, in `N` for each of `count` files, by callgrind; or nothing where
+/// there is no valgrind.
+fn instructions<const N: usize>(functions: &[&str], mode: &str, name: &str, count: usize) -> Option<Vec<[u64; N]>> {
     let folder = std::env::temp_dir().join(format!("bench-callgrind-{}", std::process::id()));
     std::fs::create_dir_all(&folder).unwrap();
     let mut command = Command::new("valgrind");
     // Else memset and memcpy use string instructions, which callgrind counts once a byte.
     command.env("GLIBC_TUNABLES", "glibc.cpu.x86_rep_stosb_threshold=2000000000:glibc.cpu.x86_rep_movsb_threshold=2000000000");
     command.arg("--tool=callgrind");
-    // The slow engine by the end of its name: callgrind 3.19 loses one of two functions whose names begin alike.
-    for function in ["pigrozd_join", "twin_join", "*_slow_join"] {
+    for function in functions {
         command.arg(format!("--toggle-collect={function}")).arg(format!("--dump-after={function}"));
     }
     command.arg(format!("--callgrind-out-file={}", folder.join("out").display()));
-    command.arg(std::env::current_exe().unwrap()).args(["--once", name]).stdout(Stdio::null()).stderr(Stdio::null());
+    command.arg(std::env::current_exe().unwrap()).args([mode, name]).stdout(Stdio::null()).stderr(Stdio::null());
     let ran = command.status().is_ok_and(|s| s.success());
-    // One dump a call, numbered from 1: library, twin, slow engine, library and so on.
-    let totals: Vec<u64> = (1..=3 * count)
+    // One dump a call, numbered from 1.
+    let totals: Vec<u64> = (1..=N * count)
         .map_while(|i| std::fs::read_to_string(folder.join(format!("out.{i}"))).ok())
         .filter_map(|text| text.lines().find_map(|l| l.strip_prefix("totals: ").and_then(|n| n.trim().parse().ok())))
         .collect();
     let _ = std::fs::remove_dir_all(&folder);
-    let counted = ran && totals.len() == 3 * count && totals.iter().all(|&n| n > 0);
-    counted.then(|| totals.chunks_exact(3).map(|c| [c[0], c[1], c[2]]).collect())
+    let counted = ran && totals.len() == N * count && totals.iter().all(|&n| n > 0);
+    counted.then(|| totals.chunks_exact(N).map(|c| c.try_into().unwrap()).collect())
 }
 
 fn once(case: &Case) {
@@ -457,6 +488,8 @@ struct Run {
     found: Vec<[usize; 2]>,
     /// From where on they have few choices.
     few: usize,
+    /// The cases whose results are reached by number. Their instructions are counted apart.
+    numbered: Vec<Case>,
 }
 
 impl Run {
@@ -471,7 +504,7 @@ impl Run {
         let found = add_partners(&mut cases, from);
         let few = cases.len();
         cases.extend(of_name(inputs::few_choices()));
-        Run { cases, shown, mended, found, few }
+        Run { cases, shown, mended, found, few, numbered: of_name(inputs::by_number()) }
     }
 
     /// All cases that are no partners.
@@ -480,7 +513,7 @@ impl Run {
         self.cases[..self.shown].iter().chain(without_plan).chain(&self.cases[self.few..])
     }
 
-    fn print(&self, counts: Option<Vec<Counts>>) {
+    fn print(&self, counts: Option<Vec<Counts>>, numbered: Option<Vec<[u64; access::CALLS]>>) {
         let counts = counts.as_deref();
         if self.shown > 0 {
             table(&self.cases[..self.shown], counts);
@@ -493,6 +526,9 @@ impl Run {
         }
         if self.few < self.cases.len() {
             slow::table(&self.cases[self.few..], counts.map(|c| &c[self.few..]));
+        }
+        if !self.numbered.is_empty() {
+            access::table(&self.numbered, numbered.as_deref());
         }
     }
 }
@@ -512,17 +548,18 @@ fn add_partners(cases: &mut Vec<Case>, from: usize) -> Vec<[usize; 2]> {
 fn main() {
     let arguments: Vec<String> = std::env::args().skip(1).collect();
     let (mode, name) = match arguments.iter().map(String::as_str).collect::<Vec<_>>()[..] {
-        [mode @ ("--quick" | "--check" | "--once")] => (mode, ""),
-        [mode @ ("--quick" | "--check" | "--once" | "--files"), name] => (mode, name),
+        [mode @ ("--quick" | "--check" | "--once" | "--numbered")] => (mode, ""),
+        [mode @ ("--quick" | "--check" | "--once" | "--numbered" | "--files"), name] => (mode, name),
         [] => ("", ""),
         [name] if !name.starts_with('-') => ("", name),
         _ => {
-            eprintln!("usage: bench [--quick | --check | --once] [NAME] | bench --files FOLDER");
+            eprintln!("usage: bench [--quick | --check | --once | --numbered] [NAME] | bench --files FOLDER");
             std::process::exit(2);
         }
     };
     if mode == "--files" {
-        for case in Run::new("").own() {
+        let run = Run::new("");
+        for case in run.own().chain(&run.numbered) {
             let file = case.name().replace(',', "").replace(' ', "-");
             std::fs::write(std::path::Path::new(name).join(file), &case.first().file).unwrap();
         }
@@ -530,9 +567,16 @@ fn main() {
     }
     let run = Run::new(name);
     match mode {
-        "--check" => check_all(run.own()),
+        "--check" => {
+            check_all(run.own());
+            access::check_all(&run.numbered, &run.own().map(Case::name).collect::<Vec<_>>());
+        }
         "--once" => run.cases.iter().for_each(once),
-        "--quick" => run.print(None),
-        _ => run.print(instructions(run.cases.len(), name)),
+        "--numbered" => run.numbered.iter().for_each(access::once),
+        "--quick" => run.print(None, None),
+        _ => run.print(
+            instructions(&CONTESTANTS, "--once", name, run.cases.len()),
+            instructions(&BY_NUMBER, "--numbered", name, run.numbered.len()),
+        ),
     }
 }

@@ -120,8 +120,8 @@ fn print_turn(costs: &[Cost]) {
     println!("{}: the join takes less time {}{fewer}", costs[0].case.shape, turn(&sizes, &times));
 }
 
-/// In words, the first size from which on the join is the cheaper one at all sizes that were tried: the slow engine's ratio is over 1.
-fn turn(sizes: &[usize], ratios: &[f64]) -> String {
+/// In words, the first size from which on one is the cheaper one at all sizes that were tried: the other's ratio to it is over 1.
+pub fn turn(sizes: &[usize], ratios: &[f64]) -> String {
     let Some(last) = ratios.iter().rposition(|&r| r <= 1.0) else { return "at all of these sizes".into() };
     sizes.get(last + 1).map_or("at none from which it stays so".into(), |n| format!("from x {n} on"))
 }
