@@ -92,8 +92,8 @@ check-edits:
 
 .PHONY: lib check-users check-c check-python check-commands check-edits
 
-# make bench measures the join beside an unproved twin, a HashMap join, SQLite and the slow engine (docs/PERFORMANCE.md); make
-# check-bench says only whether they agree, after the twin's own tests. Both need cargo and Debian's sqlite3, the instructions valgrind too.
+# make bench measures the join beside an unproved twin, a HashMap join, SQLite and the slow engine, and results by number
+# (docs/PERFORMANCE.md); make check-bench says only whether they agree, after the twin's own tests. Both need cargo and Debian's sqlite3, the instructions valgrind too.
 BENCH = target/bench/release/bench
 
 $(BENCH): lib $(wildcard bench/src/*.rs)
@@ -174,8 +174,8 @@ help:
 	    'make check-python      the Python package over the shared library; a minute after make lib' \
 	    'make check-commands    the commands of the Python package; 20 seconds after make lib' \
 	    'make check-edits       why each must-fail edit was refused in the last rt ci; a second' \
-	    'make bench             measures the join beside other joins; 2 minutes' \
-	    'make check-bench       only whether these joins agree; 15 seconds after make lib' \
+	    'make bench             measures the join beside other joins, and results by number; 4 minutes' \
+	    'make check-bench       only whether these joins agree; 20 seconds after make lib' \
 	    'make clean             removes target/, with all that is proved and built' \
 	    'make help              this list'
 
