@@ -164,7 +164,7 @@ clean:
 help:
 	@printf '%s\n' \
 	    'make run [FILE=path]   joins a file, or the sample; 2 to 4 minutes the first time, since all is proved first, then a second' \
-	    'make test              rt ci: proves everything from nothing and tries the must-fail edits; 10 to 15 minutes' \
+	    'make test              rt ci: proves everything from nothing and tries the must-fail edits; 15 to 20 minutes' \
 	    'make lib               target/lib/libpigrozd.a and libpigrozd.so; 2 to 4 minutes the first time, 20 seconds after make run' \
 	    'make install [PREFIX=/usr/local] [DESTDIR=]' \
 	    '                       header, libraries, pkg-config file, programs and manual pages; seconds after make lib and make run' \
