@@ -81,7 +81,7 @@ PYTHON = python3
 
 check-python: lib
 	$(PYTHON) tests/run.py test_library test_slow test_access test_products test_mending test_mended_plans test_finding test_found_plans \
-	    test_python test_not_recorded test_formats test_install
+	    test_python test_count test_not_recorded test_formats test_install
 
 check-commands: lib
 	$(PYTHON) tests/run.py test_commands test_join test_view test_damaged test_documents test_sources

@@ -38,8 +38,8 @@
 #define PIGROZD_MOST_ATTRIBUTES 32       /* of all tables together, and the values of a row of the result; numbered from 0 */
 #define PIGROZD_MOST_PLAN_BYTES 255      /* that the plan's record can hold; a plan of 16 tables has 31, or none */
 
-/* The most words of scratch that any file needs: 8 for each of 16 * 4,096 rows, and 4,096 for each of 15 joins. */
-#define PIGROZD_MOST_SCRATCH_WORDS 585728
+/* The most words of scratch that any file needs: 10 for each of 16 * 4,096 rows, and 4,096 for each of 15 joins. */
+#define PIGROZD_MOST_SCRATCH_WORDS 716800
 
 /* The most words of output that are used. A longer output is taken, and its rest is left as it was. */
 #define PIGROZD_MOST_OUTPUT_WORDS 1048576
@@ -47,8 +47,9 @@
 /* The most choices that pigrozd_slow_join goes through. There are as many as the product of all row counts. */
 #define PIGROZD_MOST_CHOICES 1048576
 
-/* As the detail of PIGROZD_OUTPUT_SHORT: so many results or more. pigrozd_result_at and pigrozd_number_of refuse so many. */
-#define PIGROZD_HOLD_LIMIT 4294967295u
+/* 2^64 - 1. As the detail of PIGROZD_OUTPUT_SHORT: so many results or more. A lower detail is their number, and exact.
+ * pigrozd_result_at and pigrozd_number_of refuse so many. */
+#define PIGROZD_HOLD_LIMIT 18446744073709551615u
 
 /* As a value, in a file, in output and in row: not recorded. It matches nothing, not even itself: no result uses a row that
  * holds it in an attribute that two tables of the plan share. In an attribute of one table alone it passes through. */
@@ -116,8 +117,14 @@ typedef struct pigrozd_answer {
  *
  * Too little scratch is PIGROZD_SCRATCH_SHORT: lend as many words as detail says and call again. Too short an output is
  * PIGROZD_OUTPUT_SHORT: detail times the values of a row are the words to lend. Where these are more than
- * PIGROZD_MOST_OUTPUT_WORDS, no output is long enough. After PIGROZD_JOINED and PIGROZD_OUTPUT_SHORT all of scratch is zero;
- * after 1 to 10 and 14 it is as it was. What scratch and output hold before the call changes no answer. */
+ * PIGROZD_MOST_OUTPUT_WORDS, no output is long enough. This product can pass 64 bits: before it is formed, compare detail with
+ * PIGROZD_MOST_OUTPUT_WORDS divided by the values of a row. After PIGROZD_JOINED and PIGROZD_OUTPUT_SHORT all of scratch is zero;
+ * after 1 to 10 and 14 it is as it was. What scratch and output hold before the call changes no answer.
+ *
+ * To learn how many results a file has, lend the scratch and an output of 0 words, by a pointer that is not NULL. The answer is
+ * PIGROZD_OUTPUT_SHORT, and detail is the number of results. It is exact, unless it is PIGROZD_HOLD_LIMIT: then there are at
+ * least so many. Or the answer is PIGROZD_JOINED, and there are none. Written out, the results take detail times the values of a
+ * row times 4 bytes. This product can pass 64 bits too; below 2^57 results it does not. */
 pigrozd_answer pigrozd_join(const uint8_t *file, size_t file_bytes,
                             uint32_t *scratch, size_t scratch_words,
                             uint32_t *output, size_t output_words);

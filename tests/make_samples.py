@@ -10,9 +10,9 @@ writes, from the top of the repository (standard library of Python only):
 - crates/samples/args: the names, in the order in which the test program goes through them.
 - crates/samples/stdout: for each sample its name, the answer as the program prints it, and what scratch and output hold
   after the call; then number, detail and rows of the slow engine's answer, what an output of its own holds after it, and whether
-  that is what the join's holds; then results by their numbers (past the last one, and of up to 4,096 the first, the middle and the
-  last), their row numbers, the buffers, and the way back. The answers come from reference.py, which tries every choice and shares
-  no code with the library.
+  that is what the join's holds; then results by their numbers (past the last one, the first, the middle and the last), their row
+  numbers, the buffers, and the way back. The answers come from reference.py, which tries every choice, or numbers those that agree
+  where there are very many, and shares no code with the library.
 - crates/pigrozd/stdin and crates/pigrozd/stdout: document 01's sample file and its print.
 
 To add a sample, add a line to a function below and run this again.
@@ -80,8 +80,8 @@ def bench_samples():
     sample("p6_byte_behind_a_whole_plan", file(BENCH, FF, 0, 1, 2))
     sample("p7_table_named_twice", file(BENCH, FF, 0, FF, 0, 1))
     sample("p8_empty_file", b"")
-    sample("p9_scratch_of_95_words", P1, 95)
-    sample("p9_scratch_of_96_words", P1, 96)
+    sample("p9_scratch_of_117_words", P1, 117)
+    sample("p9_scratch_of_118_words", P1, 118)
     sample("p10_output_of_15_words", P1, 1000, 15)
     sample("p10_output_of_16_words", P1, 1000, 16)
     sample("p11_no_rows_no_buffers", file([table((0,))], 0), 0, 0)
@@ -187,7 +187,7 @@ def buffer_samples():
     sample("scratch_one_short_for_five_tables", file(star, *code), need - 1, 5000)
     sample("scratch_none", P1, 0)
     sample("scratch_and_output_large", P1, 65536, 65536)
-    sample("scratch_short_and_output_short", P1, 95, 15)
+    sample("scratch_short_and_output_short", P1, 117, 15)
     sample("output_none", P1, 1000, 0)
     sample("output_none_for_no_results", file([table((0,), (1,)), table((0,), (2,))], FF, 0, 1), 1000, 0)
     sample("output_of_one_word_more", P1, 1000, 17)
@@ -199,14 +199,51 @@ def buffer_samples():
     sample("results_4096_of_four_tables_apart", file(apart, FF, FF, 0, 1, FF, 2, 3), 1000, 300)
     sample("results_2_to_the_32", file([table((a,), *[(i,) for i in range(16)]) for a in range(8)], *right_deep(8)), 5000)
     same = [table((0,), *[(5,)] * 16)] * 9
-    sample("results_held_in_the_groups", file(same, *right_deep(9)), 5000, 300)
-    sample("results_held_from_the_left", file(same, *[FF] * 8, *range(9)), 5000, 300)
+    sample("results_2_to_the_36_in_the_groups", file(same, *right_deep(9)), 5000, 300)
+    sample("results_2_to_the_36_from_the_left", file(same, *[FF] * 8, *range(9)), 5000, 300)
+
+
+# ---- totals, request U7
+def chain(total, key, first, base=32):
+    """Tables in a row, each with one attribute of the next. The rows of the first one that have 1 in the attribute
+    `key` have this total together, and the one that has 2 there has the total 1. A row with 1 in a later attribute
+    finds all rows that have 1 there, one with 0 finds a single one: so there are as many rows with 0 as the digit of
+    the total to this base says, the lowest digit first."""
+    digits, rest = [], total
+    while rest >= base:
+        digits.append(rest % base)
+        rest //= base
+    held = [key, *range(first, first + len(digits))]
+    ends = [[(2, 0)] if place == 0 else [(0, 0)] for place in range(len(digits))]
+    tables = [table(held[i:i + 2], *[(1, 0)] * digit, *[(1, 1)] * base, *ends[i]) for i, digit in enumerate(digits)]
+    return tables + [table(held[-1:], *[(1,)] * rest, (0,) if digits else (2,))]
+
+
+def two_groups(rows, one, other):
+    """A first table with these rows, of attributes 0 and 1. Where they have 1 in the first they find a group with the
+    total `one`, and in the second one with the total `other`; where they have 2, one with the total 1."""
+    left, right = chain(one, 0, 2), chain(other, 1, 20)
+    codes = [named(right_deep(len(left)), *range(1, 16)), named(right_deep(len(right)), *range(1 + len(left), 16))]
+    return file([table((0, 1), *rows), *left, *right], FF, FF, 0, *codes[0], *codes[1])
+
+
+def many(name, data, results, scratch=30000, output=300):
+    """A sample with so many results, too many to be written out."""
+    assert reference.outcome(data, scratch, output)[:2] == (11, min(results, reference.HOLD)), name
+    sample(name, data, scratch, output)
+
+
+def few(name, data, results, scratch=30000, output=300):
+    """A sample with so many results, which are written out."""
+    assert len(reference.outcome(data, scratch, output)[2]) == results, name
+    sample(name, data, scratch, output)
 
 
 def product_samples():
-    """Totals past 16 bits. The one row of the first table finds two groups, each of two tables: its total is their product."""
+    """One row finds two groups: its total is their product. First of numbers of 16 bits and some more, then of words of
+    32 bits and some more."""
 
-    def two_groups(first, second):
+    def two_tables_each(first, second):
         tables = [table((0,), *[(5,)] * rows) for rows in (1, *first, *second)]
         return file(tables, FF, FF, 0, FF, 1, 2, FF, 3, 4)
 
@@ -214,16 +251,101 @@ def product_samples():
         ("of_the_largest_halves", (255, 257), (255, 257), 65535 * 65535),
         ("of_a_half_and_65536", (255, 257), (256, 256), 65535 * 65536),
         ("of_65536_and_a_half", (256, 256), (255, 257), 65536 * 65535),
-        ("one_past_the_limit", (256, 256), (256, 256), reference.HOLD),
+        ("of_65536_and_65536", (256, 256), (256, 256), 65536 * 65536),
         ("of_both_halves_of_a_word", (256, 257), (255, 256), 65792 * 65280),
         ("of_a_half_and_both_of_a_word", (255, 256), (256, 257), 65280 * 65792),
-        ("past_the_limit_by_the_lower_half", (256, 257), (97, 673), reference.HOLD),
-        ("below_the_limit_by_the_upper_half", (256, 512), (151, 217), 131072 * 32767),
-        ("one_past_the_limit_by_the_upper_half", (256, 512), (128, 256), reference.HOLD),
+        ("past_a_word_by_the_lower_half", (256, 257), (97, 673), 65792 * 65281),
+        ("below_a_word_by_the_upper_half", (256, 512), (151, 217), 131072 * 32767),
+        ("past_a_word_by_the_upper_half", (256, 512), (128, 256), 131072 * 32768),
     ):
-        data = two_groups(first, second)
-        assert reference.outcome(data, 12000, 300)[:2] == (11, product), name
-        sample("product_" + name, data, 12000, 300)
+        many("product_" + name, two_tables_each(first, second), product)
+    word, limit = 2**32, reference.HOLD
+    for name, one, other in (
+        ("of_a_word_and_3", word, 3),
+        ("of_3_and_a_word", 3, word),
+        ("of_the_largest_words", word - 1, word - 1),
+        ("of_both_words_and_one", word + 1, word - 2),
+        ("of_one_and_both_words", word - 2, word + 1),
+        ("of_the_largest_upper_word", word, word - 1),
+        ("at_the_limit", word - 1, word + 1),
+        ("one_past_the_limit", word, word),
+        ("one_past_the_limit_by_the_upper_half", 2 * word, word // 2),
+        ("past_the_limit_by_the_lower_half", 2 * word - 1, word // 2 + 1),
+    ):
+        many("product_" + name, two_groups([(1, 1)], one, other), one * other)
+    assert (word - 1) * (word + 1) == limit
+
+
+def sum_samples():
+    """Two rows that find a group each: the total is the sum of two. Then the sum of many rows."""
+    word = 2**32
+    for name, one, other in (
+        ("carried_to_the_upper_word", word - 1, 1),
+        ("carried_from_two_lower_words", word - 1, word - 1),
+        ("without_a_lower_word", word + word // 2, word // 2),
+    ):
+        many("sum_" + name, two_groups([(1, 2), (2, 1)], one, other), one + other)
+    # 32 rows that have 2 to the 59 less 1 each, and as many that have 1 each: so the sum comes to the limit, and past it
+    high = chain(2**59 - 1, 1, 2)
+    rows = [(1, 7)] * 32 + [(2, 7)] * 32
+    for name, left_out in (("one_below_the_limit", 2), ("at_the_limit", 1), ("one_past_the_limit", 0)):
+        data = file([table((1, 31), *rows[:64 - left_out]), *high], *right_deep(1 + len(high)))
+        many("sum_" + name, data, 2**64 - left_out)
+
+
+def keyed(*groups):
+    """Tables of attribute 0. For each group, whose rows have one value, there is a number of rows for each table. So the
+    results are as many as the products of the groups, summed."""
+    columns = [[(value,) for value, rows in enumerate(counts) for _ in range(rows)] for counts in zip(*groups)]
+    return [table((0,), *column) for column in columns]
+
+
+def digits_of_16_tables(base, lowest):
+    """16 tables that share one attribute. They have base to the 16 results, less 1, and less `lowest` of them."""
+    rows = [[base - 1] + [base if t <= value else 1 for t in range(1, 16)] for value in range(16)]
+    rows[0][0] -= lowest
+    return keyed(*rows)
+
+
+def limit_samples():
+    """Numbers of results around 2 to the 32 and around the limit, of rows that find 15 groups each (left deep), and of
+    groups whose rows find a group each (right deep)."""
+    for base, lowest in ((4, 1), (4, 0), (16, 1), (16, 0)):
+        results = base**16 - 1 - lowest
+        tables = digits_of_16_tables(base, lowest)
+        many("results_%d_left_deep" % results, file(tables, *left_deep(16)), results)
+        tables = [table((0,), (1,)), *chain(results, 0, 1, 8 if base == 4 else 32)]
+        many("results_%d_right_deep" % results, file(tables, *right_deep(len(tables))), results)
+    equal = {rows: table((0,), *[(5,)] * rows) for rows in (4, 16, 64)}
+    for bits in (32, 64, 96):
+        tables = [equal[2 ** (bits // 16)]] * 16
+        many("results_2_to_the_%d_left_deep" % bits, file(tables, *left_deep(16)), 2**bits)
+        many("results_2_to_the_%d_right_deep" % bits, file(tables, *right_deep(16)), 2**bits)
+    many("results_2_to_the_96_bushy", file(tables, *bushy(16)), 2**96)
+    many("results_2_to_the_96_no_plan", file(tables), 2**96)
+
+
+def unused_samples():
+    """Groups with large totals that no result uses. Their rows take part in the right plan, so that they are entered and
+    looked up there; the few results are written out."""
+    for name, rows in (
+        ("2_to_the_32", [1] + [16] * 8),
+        ("3_times_2_to_the_32", [3] + [16] * 8),
+        ("2_to_the_64", [1, 256, 256] + [16] * 12),
+        ("2_to_the_67", [2] + [32] * 13 + [2]),
+    ):
+        for shape, deep in (("left", left_deep), ("right", right_deep)):
+            below = keyed([0] * len(rows), rows, [1, 2] + [1] * (len(rows) - 2))
+            first = table((0, 1), (2, 8), (3, 9), (2, 8))
+            code = [FF, 0, *named(deep(len(rows)), *range(1, 16))]
+            data = file([first, *below], *code)
+            few("unused_group_of_%s_%s_deep" % (name, shape), data, 4)
+    # the first row finds a group that is held and, before or after it, nothing
+    held = chain(2**64, 0, 2)
+    tables = [table((0, 1), (1, 5), (2, 6), (2, 5)), table((1,), (6,), (7,)), *held]
+    found = named(right_deep(len(held)), *range(2, 16))
+    few("lost_row_that_has_found_a_held_group", file(tables, FF, FF, 0, *found, 1), 1)
+    few("lost_row_that_finds_a_held_group_then", file(tables, FF, FF, 0, 1, *found), 1)
 
 
 # ---- keys and rows
@@ -259,9 +381,9 @@ def key_samples():
     inner = [table((0, 1), (1, 5), (2, 6), (2, 5)), table((0, 2), (1, 7), (2, 8), (2, 9)), table((0, 1), (2, 6), (1, 5), (2, 7))]
     sample("key_from_whole_plans_not_neighbours", file(inner, FF, FF, 0, 1, 2))
     tree = [(i * 2654435761) % 4093 for i in range(4096)]
-    sample("rows_4096_looked_up", file([table((0,), *[(v,) for v in tree]), table((0, 1), (tree[0], 7), (tree[4095], 8), (5000, 9))], FF, 0, 1), 40000)
-    sample("rows_4096_entered", file([table((0, 1), (tree[9], 7), (5000, 8), (tree[2000], 9)), table((0,), *[(v,) for v in tree])], FF, 0, 1), 40000)
-    sample("rows_4096_and_an_empty_table", file([table((0,), *[(v,) for v in tree]), table((0,))], FF, 0, 1), 40000)
+    sample("rows_4096_looked_up", file([table((0,), *[(v,) for v in tree]), table((0, 1), (tree[0], 7), (tree[4095], 8), (5000, 9))], FF, 0, 1), 50000)
+    sample("rows_4096_entered", file([table((0, 1), (tree[9], 7), (5000, 8), (tree[2000], 9)), table((0,), *[(v,) for v in tree])], FF, 0, 1), 50000)
+    sample("rows_4096_and_an_empty_table", file([table((0,), *[(v,) for v in tree]), table((0,))], FF, 0, 1), 50000)
 
 
 # ---- values that were not recorded
@@ -373,9 +495,9 @@ def linked(*shapes):
 
 
 def mended_samples():
-    second = file(BENCH, FF, 0, FF, 2, 1)  # this plan would need 95 words, mended it needs 96
-    sample("p2_scratch_of_95_words", second, 95)
-    sample("p2_scratch_of_96_words", second, 96)
+    second = file(BENCH, FF, 0, FF, 2, 1)  # this plan would need 117 words, mended it needs 118
+    sample("p2_scratch_of_117_words", second, 117)
+    sample("p2_scratch_of_118_words", second, 118)
     sample("p2_output_of_15_words", second, 1000, 15)
     two_empty = [table((3,)), table((0, 2), (1, 1)), table((1,), (1,), (1,)), table((1,), (1,), (2,)), table((0, 2, 3))]
     sample("mended_two_of_five_tables_empty", file(two_empty, FF, 3, FF, FF, 0, FF, 1, 4, 2))
@@ -503,8 +625,8 @@ def lettered(*texts):
 def found_samples():
     code = "ff02ff0100"
     found("sample_file", BENCH, code)
-    found("sample_file_scratch_of_94_words", BENCH, code, 94)
-    found("sample_file_scratch_of_95_words", BENCH, code, 95, 16)
+    found("sample_file_scratch_of_116_words", BENCH, code, 116)
+    found("sample_file_scratch_of_117_words", BENCH, code, 117, 16)
     found("sample_file_output_of_15_words", BENCH, code, 1000, 15)
     found("one_table_no_rows_no_buffers", [table((0,))], "00", 0, 0)
     found("middle_table_empty", [FRAMES, table((1, 2)), READINGS], code)
@@ -566,11 +688,11 @@ def sixteen_found_samples():
     found("16_tables_chain_from_both_ends", linked(*zip(rows, both)),
           "ffff0fff0dff0bff09ff07ff05ff0301ff0eff0cff0aff08ff06ff04ff0200")
     code = "ffff0fff02ff08ff0d04ff0aff05ff0bff00ff0eff07ff06ff0cff01ff0903"
-    found("16_tables_chain_shuffled", linked(*zip(rows, [chain[t] for t in shuffled])), code, 223)
+    found("16_tables_chain_shuffled", linked(*zip(rows, [chain[t] for t in shuffled])), code, 273)
     star = [tuple(range(7))] + [(t % 7,) for t in range(15)]
     code = "ff0f" + "ff" * 14 + bytes(range(15)).hex()
-    found("16_tables_star", linked(*zip(rows, star)), code, 229)
-    found("16_tables_star_scratch_one_short", linked(*zip(rows, star)), code, 228)
+    found("16_tables_star", linked(*zip(rows, star)), code, 279)
+    found("16_tables_star_scratch_one_short", linked(*zip(rows, star)), code, 278)
     # the first table shares an attribute with each of three, and each of these one with four of the others
     flake = [(0, 1, 2)] + [(d, *range(3 + 4 * d, 7 + 4 * d)) for d in range(3)] + [(3 + t,) for t in range(12)]
     found("16_tables_snowflake", linked(*zip(rows, flake)),
@@ -683,10 +805,10 @@ def slow_limit_samples():
 
 def slow_product_samples():
     """Products that are 0, or that no word of 32 or of 64 bits holds."""
-    many, none = table((0,), *[(y,) for y in range(4096)]), table((0,))
-    slow("no_rows_behind_two_tables_of_4096", 0, [many, many, none], (FF, FF, 2, 0, 1), 65536, 0)
-    slow("no_rows_before_two_tables_of_4096", 0, [none, many, many], (FF, FF, 0, 1, 2), 65536, 0)
-    slow("no_rows_between_two_tables_of_4096", 0, [many, none, many], (FF, FF, 1, 0, 2), 65536)
+    many, none = table((0,), *[(y,) for y in range(3000)]), table((0,))
+    slow("no_rows_behind_two_tables_of_3000", 0, [many, many, none], (FF, FF, 2, 0, 1), 60000, 0)
+    slow("no_rows_before_two_tables_of_3000", 0, [none, many, many], (FF, FF, 0, 1, 2), 60000, 0)
+    slow("no_rows_between_two_tables_of_3000", 0, [many, none, many], (FF, FF, 1, 0, 2), 60000)
     slow("no_rows_and_no_scratch", 0, [many, many, none], (FF, FF, 2, 0, 1), 0, 0)
     fives = {rows: table((0,), *[(5,)] * rows) for rows in (16, 17, 241, 1024)}
     slow("product_of_2_to_the_64", 15, [fives[16]] * 16, left_deep(16))
@@ -754,17 +876,16 @@ def result_samples():
     sample("result_groups_of_uneven_totals_no_plan", file(uneven))
     sample("result_row_lost_in_its_group", file([left, middle, table((2, 3), (20, 1), (24, 2))], FF, 0, FF, 1, 2))
     equal = [table((0,), *[(5,)] * 4)] * 16
-    sample("result_of_4294967296", file(equal, *left_deep(16)), 2000)
     sample("result_of_3221225472", file([table((0,), *[(5,)] * 3), *equal[1:]], *left_deep(16)), 2000)
 
 
 def main():
     for make in (
-        bench_samples, cut_samples, record_samples, plan_samples, buffer_samples, product_samples, key_samples,
-        unrecorded_samples, row_samples, many_table_samples, tree_samples, mended_samples, mended_choice_samples,
-        no_holder_samples, sixteen_samples, mended_tree_samples, found_samples, found_choice_samples,
-        not_found_samples, sixteen_found_samples, found_tree_samples, slow_limit_samples, slow_product_samples,
-        slow_refusal_samples, result_samples,
+        bench_samples, cut_samples, record_samples, plan_samples, buffer_samples, product_samples, sum_samples,
+        limit_samples, unused_samples, key_samples, unrecorded_samples, row_samples, many_table_samples, tree_samples,
+        mended_samples, mended_choice_samples, no_holder_samples, sixteen_samples, mended_tree_samples, found_samples,
+        found_choice_samples, not_found_samples, sixteen_found_samples, found_tree_samples, slow_limit_samples,
+        slow_product_samples, slow_refusal_samples, result_samples,
     ):
         make()
     folder = os.path.join(TOP, "crates/samples/data")

@@ -38,6 +38,18 @@ done
 [ "$same" -gt 100 ] || fail "only $same samples were compared"
 [ "$skipped" -gt 10 ] || fail "only $skipped samples are too large for the program"
 
+# 2^64 results: the join's detail is the limit, and the slow engine refuses so many choices
+{
+    for table in $(seq 16); do
+        printf 'TB\001\000\000\000\020\000\000\000'
+        head -c 64 /dev/zero
+    done
+    printf 'PL\000'
+} >"$room/many"
+for program in target/bin/accept "$accept_file"; do
+    [ "$("$program" <"$room/many")" = 'skipped 11 18446744073709551615 0 15 0 0' ] || fail "$program: another line for 2^64 results"
+done
+
 # standard input that is too long for the program
 head -c 65537 /dev/zero >"$room/long"
 [ "$(target/bin/accept <"$room/long")" = 'refused 13 65536' ] || fail 'the program takes more than 65,536 bytes'

@@ -17,11 +17,10 @@ import unittest
 import warnings
 from unittest import mock
 
-from make_samples import file, table
 from reference import HOLD
 from support import CSVS, FOUND_PLAN, NO_PLAN, SAMPLE, SAMPLE_PLAN, Folder, damaged, load, samples
-from test_library import BEFORE, drawn_tables, words
-from test_products import PLAN, tables_of
+from test_library import BEFORE, NEED, drawn_tables, words
+from test_products import two_totals
 
 import pigrozd
 import reference
@@ -46,11 +45,6 @@ def needed(data):
 def width_of(data):
     """How many values a row of the result has."""
     return len(plans.width(fileformat.read(data).tables))
-
-
-def choices(data):
-    """How many choices a file's tables have, as far as they can be read."""
-    return plans.choices(fileformat.read(data).tables)
 
 
 class Calls(unittest.TestCase):
@@ -106,7 +100,7 @@ class Calls(unittest.TestCase):
         if results:
             rows = self.result_at(data, results - 1)[3][: len(fileformat.read(data).tables)]
             self.check_both_ways(data, results - 1, rows)
-        for n in (results, results + 1, HOLD, HIGHEST):
+        for n in (results, results + 1, 2**32 - 1, 2**32, 2**63, HIGHEST):
             if n >= results:
                 self.assertEqual(self.result_at(data, n), (16, results, [], [0] * 16))
 
@@ -117,8 +111,9 @@ class Files(Calls):
             self.assertEqual(self.result_at(SAMPLE, n)[2], list(SAMPLE_VALUES[n]))
             self.check_both_ways(SAMPLE, n, SAMPLE_ROWS[n])
         self.check_end(SAMPLE, 4)
-        self.assertEqual(self.result_at(SAMPLE, 0, 95), (10, 96, [], [0] * 16))
-        self.assertEqual(self.number_of(SAMPLE, SAMPLE_ROWS[0], 95), (10, 96, 0))
+        self.assertEqual(NEED, needed(SAMPLE))
+        self.assertEqual(self.result_at(SAMPLE, 0, NEED - 1), (10, NEED, [], [0] * 16))
+        self.assertEqual(self.number_of(SAMPLE, SAMPLE_ROWS[0], NEED - 1), (10, NEED, 0))
 
     def test_rows_stand_by_table_number(self):
         """Whatever the plan's order is, by which results have their numbers."""
@@ -181,14 +176,13 @@ class Files(Calls):
         self.assertGreater(numbers[17], 500)
 
     def test_samples(self):
-        """The files of all samples that the reference goes through quickly."""
+        """The files of all samples."""
         numbers = collections.Counter()
         for data in samples().values():
-            if choices(data) < 20000 or fileformat.read(data).fault:
-                for n in (0, 1, 3, 100, HIGHEST):
-                    numbers[self.check_result(data, n, 70000)] += 1
-                numbers[self.check_number(data, [0] * len(fileformat.read(data).tables), 70000)] += 1
-        self.assertEqual(set(numbers), {0, 1, 2, 3, 4, 5, 6, 7, 8, 9, 14, 16, 17})
+            for n in (0, 1, 3, 100, HIGHEST):
+                numbers[self.check_result(data, n, 70000)] += 1
+            numbers[self.check_number(data, [0] * len(fileformat.read(data).tables), 70000)] += 1
+        self.assertEqual(set(numbers), {0, 1, 2, 3, 4, 5, 6, 7, 8, 9, 11, 14, 16, 17})
 
     def test_damaged_files(self):
         """What the join refuses with 1 to 10 and 14 is refused with the same number and detail."""
@@ -243,33 +237,128 @@ def grouped(*groups):
     return [{0: column} for column in columns]
 
 
-def nth(tables, order, n):
-    """The row numbers, by table number, of result n of tables that share one attribute, joined in this order."""
+def numbering(tables, order):
+    """What gives the row numbers, by table number, of result n of tables that share one attribute, joined in this
+    order."""
     columns = [tables[t][0] for t in order]
-    for first, value in enumerate(columns[0]):
-        groups = [[y for y, other in enumerate(column) if other == value] for column in columns[1:]]
-        size = math.prod(map(len, groups))
-        if n < size:
-            rows = [first]
-            for group in groups:
-                size //= len(group)
-                rows.append(group[n // size])
-                n %= size
-            return [y for _, y in sorted(zip(order, rows))]
-        n -= size
+    groups = {
+        value: [[y for y, other in enumerate(column) if other == value] for column in columns[1:]]
+        for value in set(columns[0])
+    }
+
+    def nth(n):
+        for first, value in enumerate(columns[0]):
+            size = math.prod(map(len, groups[value]))
+            if n < size:
+                rows = [first]
+                for group in groups[value]:
+                    size //= len(group)
+                    rows.append(group[n // size])
+                    n %= size
+                return [y for _, y in sorted(zip(order, rows))]
+            n -= size
+
+    return nth
 
 
-ONE_LESS = ((255, 257, 256, 256), (62, 1057, 1, 1))  # 65,535 * 65,536 + 65,534
-EXACT = ((255, 257, 256, 256), (255, 257, 1, 1))  # 65,535 * 65,536 + 65,535
+def deep(order, left):
+    """A plan of tables in this order, each joined to all before it, or to all behind it."""
+    if len(order) == 1:
+        return order[0]
+    return (deep(order[:-1], left), order[-1]) if left else (order[0], deep(order[1:], left))
+
+
+WORD = 2**32
+NEAR = ((255, 257, 256, 256), (255, 257, 1, 1))  # 65,535 * 65,536 + 65,535, which is one less than 2 to the 32
+EXACT = [[15] + [16 if t <= value else 1 for t in range(1, 16)] for value in range(16)]  # 15 * 16 ** value each: HOLD
+ONE_LESS = [[14, *EXACT[0][1:]], *EXACT[1:]]
+
+
+class ManyResults(Calls):
+    """Numbers of results past 32 bits, there and back."""
+
+    def check_numbers(self, tables, plan, order, numbers):
+        """Results with these numbers, and drawn ones, there and back, of tables that share one attribute. How many
+        results there are is the last number and one more."""
+        data, nth, chance = pigrozd.make_file(tables, plan), numbering(tables, order), random.Random(41)
+        for n in sorted({*numbers, *(chance.randrange(numbers[-1]) for _ in range(60))}):
+            self.check_both_ways(data, n, nth(n))
+        self.check_end(data, numbers[-1] + 1)
+
+    def test_around_32_bits(self):
+        """Where groups meet, at the ends, and drawn ones, in two orders."""
+        for more in range(4):
+            tables = grouped(*NEAR, *[(1, 1, 1, 1)] * more)
+            numbers = (0, 1, 255, 256, 65535, 65536, WORD - 2 + more)
+            self.check_numbers(tables, (0, (1, (2, 3))), (0, 1, 2, 3), numbers)
+            self.check_numbers(tables, ((2, 3), (1, 0)), (2, 3, 1, 0), numbers)
+
+    def test_one_less_than_the_limit(self):
+        tables, order = grouped(*ONE_LESS), tuple(range(16))
+        numbers = (0, 15, 16, WORD - 1, WORD, WORD + 1, 2**48, 2**63 - 1, 2**63, HOLD - WORD, HOLD - 3, HOLD - 2)
+        for left in (True, False):
+            self.check_numbers(tables, deep(order, left), order, numbers)
+            self.check_numbers(tables, deep(order[::-1], left), order[::-1], numbers)
+
+    def test_by_the_reference(self):
+        """As the reference says, which numbers them in another way; also the values."""
+        for left in (True, False):
+            data = pigrozd.make_file(grouped(*ONE_LESS), deep(tuple(range(16)), left))
+            for n in (0, WORD, 2**63, HOLD - 2, HOLD - 1, HIGHEST):
+                self.check_result(data, n, 50000)
+            for rows in ([0] * 16, self.result_at(data, 2**63 + 7)[3], [0] * 15):
+                self.check_number(data, rows, 50000)
+
+    def test_products(self):
+        """One row that finds two groups: the number of results is the product of two totals."""
+        for wide, narrow in (
+            (HOLD - 1, 1),
+            ((HOLD - 1) // 2, 2),
+            (2**63, 1),
+            (WORD, WORD - 1),
+            (WORD - 1, WORD),
+            (WORD + 1, WORD - 2),
+            (WORD, 3),
+            (65535, 65536),
+            (1, 1),
+            (0, 5),
+            (32, 32**5),
+        ):
+            for wide_first in (True, False):
+                data, results = two_totals([(1, 1)], wide, narrow, wide_first), wide * narrow
+                self.check_end(data, results)
+                for n in (0, 31, 32, 1000, WORD, results // 3, results // 2 + 1, results - 2):
+                    if 0 <= n < results:
+                        self.check_both_ways(data, n, self.result_at(data, n)[3])
+
+    def test_sums(self):
+        """Two rows that find one group each: the number of results is the sum of two totals."""
+        for wide, narrow in ((HOLD - 2, 1), (HOLD - 1 - WORD, WORD), (HOLD - WORD, WORD - 1), (WORD - 1, 1)):
+            data = two_totals([(1, 2), (2, 1)], wide, narrow)
+            self.check_end(data, wide + narrow)
+            for n in (0, wide - 1, wide, wide + narrow - 1):
+                number, detail, _, rows = self.result_at(data, n)
+                self.assertEqual((number, detail, rows[0]), (0, 0, int(n >= wide)))
+                self.assertEqual(self.number_of(data, rows), (0, 0, n))
+
+    def test_a_large_group_that_no_result_uses(self):
+        """It is held or not, and the few results have their numbers."""
+        for rows in (16, 32):
+            below = grouped((0,) + (rows,) * 15, (1,) + (2,) * 3 + (1,) * 12, (2,) + (0,) * 15)
+            for left in (True, False):
+                data = pigrozd.make_file(below, (0, deep(tuple(range(1, 16)), left)))
+                self.check_end(data, 8)
+                for n in range(8):
+                    self.check_both_ways(data, n, numbering(below, range(16))(n))
 
 
 class Limit(Calls):
-    """11 exactly if there are 4,294,967,295 results or more."""
+    """11 exactly if there are 18,446,744,073,709,551,615 results or more."""
 
     def too_many(self, data):
         """11, whatever is asked for and however long the row buffer is. Its detail is the limit."""
         tables = len(fileformat.read(data).tables)
-        for n, row_words in ((0, 40), (HOLD - 1, 40), (HOLD, 0), (HIGHEST, 40), (HIGHEST, 0)):
+        for n, row_words in ((0, 40), (WORD, 40), (HOLD - 1, 40), (HIGHEST, 40), (HIGHEST, 0)):
             self.assertEqual(self.result_at(data, n, None, row_words), (11, HOLD, [], [0] * 16))
         for rows in ([0] * tables, [], [4096] * tables, [0] * 17):
             self.assertEqual(self.number_of(data, rows), (11, HOLD, 0))
@@ -277,53 +366,42 @@ class Limit(Calls):
         self.assertEqual(self.result_at(data, 0, need - 1, 0), (10, need, [], [0] * 16))
         self.assertEqual(self.number_of(data, [], need - 1), (10, need, 0))
 
-    def test_one_less(self):
-        """Results at the ends, where groups meet, and drawn ones, there and back, in two orders."""
-        tables, chance = grouped(*ONE_LESS), random.Random(41)
-        for plan, order in (((0, (1, (2, 3))), (0, 1, 2, 3)), (((2, 3), (1, 0)), (2, 3, 1, 0))):
-            data = pigrozd.make_file(tables, plan)
-            numbers = {0, 1, 255, 256, 65535, 65536, HOLD - 2}
-            for n in sorted(numbers | {chance.randrange(HOLD - 1) for _ in range(60)}):
-                self.check_both_ways(data, n, nth(tables, order, n))
-            self.check_end(data, HOLD - 1)
-
     def test_exactly(self):
-        for plan in ((0, (1, (2, 3))), ((2, 3), (1, 0)), None):
+        order = tuple(range(16))
+        for plan in (deep(order, True), deep(order, False), deep(order[::-1], True), None):
             self.too_many(pigrozd.make_file(grouped(*EXACT), plan))
 
     def test_more(self):
         for tables in (
-            grouped((256, 256, 256, 256)),
-            grouped((4096, 4096, 256)),
-            grouped((4096, 4096, 4096)),
+            grouped((16,) * 16),
+            grouped(*EXACT, (1,) * 16),
+            grouped((4096,) * 6),
             [{0: [7] * 4096}] * 16,
             [{t: [7] * 4096} for t in range(16)],
-            grouped((256, 256, 256, 256), (1, 1, 1, 0)),
+            grouped((16,) * 16, (1,) * 15 + (0,)),
         ):
             self.too_many(pigrozd.make_file(tables))
 
-    def test_totals_by_digits(self):
-        """One row that finds two groups, each of six tables: the number of results is the product of two totals."""
-        for a, b in ((HOLD - 1, 1), (1, HOLD - 1), (2, 2147483647), (65535, 65536), (1, 1), (0, 5), (32, 32**5)):
-            data = file([table((0, 1), (1, 1)), tables_of(a, 0, 2), tables_of(b, 1, 8)], *PLAN)
-            self.check_end(data, a * b)
-            for n in (0, 31, 32, 1000, a * b // 3, a * b - 2):
-                if 0 <= n < a * b:
-                    self.check_both_ways(data, n, self.result_at(data, n)[3][:15])
-        for a, b in ((HOLD, 1), (1, HOLD), (HOLD + 1, 1), (65535, 65537), (65536, 65536), (HOLD, 2), (3, 1431655765)):
-            self.too_many(file([table((0, 1), (1, 1)), tables_of(a, 0, 2), tables_of(b, 1, 8)], *PLAN))
+    def test_products(self):
+        for wide, narrow in (
+            (HOLD, 1),
+            (HOLD + 1, 1),
+            (HOLD // 3, 3),
+            (WORD + 1, WORD - 1),
+            (WORD, WORD),
+            (2**63, 2),
+            (HOLD, 2),
+        ):
+            for wide_first in (True, False):
+                self.too_many(two_totals([(1, 1)], wide, narrow, wide_first))
 
     def test_sums(self):
-        """Two rows that find one group each: the number of results is the sum of two totals."""
-        for a, b in ((HOLD - 2, 1), (1, HOLD - 2), (2**31, 2**31 - 2)):
-            data = file([table((0, 1), (1, 2), (2, 1)), tables_of(a, 0, 2), tables_of(b, 1, 8)], *PLAN)
-            self.check_end(data, HOLD - 1)
-            for n in (0, a - 1, a, HOLD - 2):
-                number, detail, _, rows = self.result_at(data, n)
-                self.assertEqual((number, detail, rows[0]), (0, 0, int(n >= a)))
-                self.assertEqual(self.number_of(data, rows[:15]), (0, 0, n))
-        for a, b in ((HOLD - 1, 1), (2**31, 2**31 - 1), (2**31, 2**31)):
-            self.too_many(file([table((0, 1), (1, 2), (2, 1)), tables_of(a, 0, 2), tables_of(b, 1, 8)], *PLAN))
+        for wide, narrow in ((HOLD - 1, 1), (HOLD - WORD, WORD), (HOLD - WORD + 1, WORD), (HOLD, 1)):
+            self.too_many(two_totals([(1, 2), (2, 1)], wide, narrow))
+
+
+class Shapes(Calls):
+    """Files of other shapes."""
 
     def test_no_attribute_shared(self):
         """Row numbers are the digits of n."""
@@ -455,19 +533,19 @@ class Buffers(unittest.TestCase):
             with self.assertRaises(ValueError):
                 pigrozd.call_result_at(SAMPLE, scratch, 0, row)
         self.assertEqual(good, words(*range(200)))
-        answer = pigrozd.call_result_at(SAMPLE, memoryview(good)[:96], 2, memoryview(good)[96:])
+        answer = pigrozd.call_result_at(SAMPLE, memoryview(good)[:NEED], 2, memoryview(good)[NEED:])
         self.assertEqual(answer, (0, 0, (1, 2, 2) + (0,) * 13))
-        self.assertEqual(good, words(*[0] * 96, *SAMPLE_VALUES[2], *range(100, 200)))
+        self.assertEqual(good, words(*[0] * NEED, *SAMPLE_VALUES[2], *range(NEED + 4, 200)))
 
     def test_number_of(self):
-        good = words(*range(100))
+        good = words(*range(NEED))
         for scratch in (bytearray(400), bytes(400), memoryview(good)[::2], 5):
             with self.assertRaises(TypeError):
                 pigrozd.call_number_of(SAMPLE, scratch, [0, 0, 0])
         for rows in ((1, 2, 2), [1, 2, 2], words(1, 2, 2), iter([1, 2, 2]), b"\1\2\2"):
             self.assertEqual(pigrozd.call_number_of(SAMPLE, good, rows), (0, 0, 2))
-        self.assertEqual(good, words(0) * 100)
-        self.assertEqual(pigrozd.call_number_of(SAMPLE, words(), []), pigrozd.NumberAnswer(10, 96, 0))
+        self.assertEqual(good, words(0) * NEED)
+        self.assertEqual(pigrozd.call_number_of(SAMPLE, words(), []), pigrozd.NumberAnswer(10, NEED, 0))
 
     def test_no_buffer(self):
         nothing = pigrozd.make_file([{0: []}])
@@ -679,6 +757,74 @@ class Opened(unittest.TestCase):
         self.assertEqual(wrong, [])
 
 
+class Huge(unittest.TestCase):
+    """Opened tables with more results than len() can tell. They share no attribute: rows and values of result n are
+    the digits of n to base 16."""
+
+    results = 15 * 16**15
+
+    def setUp(self):
+        plan = deep(tuple(range(16)), False)
+        self.huge = pigrozd.open_tables([{t: range(15 if t == 0 else 16)} for t in range(16)], plan)
+
+    def digits(self, n):
+        return tuple(int(digit, 16) for digit in "%016x" % n)
+
+    def test_size(self):
+        size = self.huge.size
+        self.assertEqual((size.results, size.values, size.at_least), (self.results, 16, False))
+        self.assertEqual(size.bytes, 64 * self.results)
+        self.assertTrue(self.huge)
+        told = r"^there are 17,293,822,569,102,704,640 results, and len\(\) goes up to 9,223,372,036,854,775,807; "
+        for function in (len, list, random.choice):
+            with self.assertRaisesRegex(OverflowError, told):
+                function(self.huge)
+        self.assertEqual(
+            repr(self.huge),
+            "<Tables: 16 tables, 17,293,822,569,102,704,640 results, names %r>" % (tuple(range(16)),),
+        )
+
+    def test_results(self):
+        for n in (0, WORD - 1, WORD, 2**53 + 1, 2**63 - 1, 2**63, self.results - 1):
+            self.assertEqual(self.huge[n], self.digits(n))
+            self.assertEqual(self.huge[n - self.results], self.digits(n))
+            result = self.huge.result(n)
+            self.assertEqual((result.n, result.rows), (n, self.digits(n)))
+            self.assertEqual(self.huge.number_of(result.rows), n)
+        for n in (self.results, -self.results - 1, HIGHEST):
+            with self.assertRaises(IndexError):
+                self.huge[n]
+        told = "there are 17,293,822,569,102,704,640 results, numbers 0 to 17293822569102704639, and no result %d$"
+        with self.assertRaisesRegex(pigrozd.NoSuchResult, told % HIGHEST):
+            self.huge.result(HIGHEST)
+
+    def test_slices(self):
+        end = self.huge[2**63 :]
+        self.assertEqual((len(end), end[0], end[-1]), (7 * 16**15, self.digits(2**63), self.huge[-1]))
+        most = self.huge[1:]
+        self.assertEqual((most.size.results, most[2**63 - 1]), (self.results - 1, self.digits(2**63)))
+        self.assertTrue(most)
+        with self.assertRaisesRegex(OverflowError, "size.results has their number"):
+            len(most)
+        self.assertEqual(most[::-3].size.results, (self.results + 1) // 3)
+        self.assertEqual(self.huge[self.results :].size.results, 0)
+        self.assertFalse(self.huge[self.results :])
+        self.assertEqual(
+            repr(most[2**63 :]),
+            "<ResultSlice: 8,070,450,532,247,928,831 of 17,293,822,569,102,704,640 results, "
+            "range(9223372036854775809, 17293822569102704640)>",
+        )
+
+    def test_one_after_the_other(self):
+        for given in (self.huge, self.huge[:]):
+            self.assertEqual(list(itertools.islice(given, 3)), [self.digits(n) for n in range(3)])
+            last = [self.digits(self.results - 1 - n) for n in range(3)]
+            self.assertEqual(list(itertools.islice(reversed(given), 3)), last)
+        pages = self.huge.pages(2**62)
+        self.assertEqual([len(page) for page in pages], [2**62] * 3 + [self.results - 3 * 2**62])
+        self.assertEqual(list(next(self.huge.pages())), [self.digits(n) for n in range(40)])
+
+
 class WayBack(unittest.TestCase):
     """From rows to the number of a result; and why there is none, in the words of who gave the tables."""
 
@@ -810,13 +956,14 @@ class Opening(Folder):
 
     def test_too_many_results(self):
         with self.assertRaises(pigrozd.Refused) as caught:
-            pigrozd.open_tables({name: {"x": [7] * 256} for name in "abcd"})
-        told = "there are 4,294,967,295 results or more, and results cannot be numbered then"
+            pigrozd.open_tables({name: {"x": [7] * 2048} for name in "abcdef"})
+        told = "there are 18,446,744,073,709,551,615 results or more, and results cannot be numbered then"
         refused = caught.exception
         self.assertEqual((refused.number, refused.detail, refused.why), (11, HOLD, told))
-        with self.assertRaisesRegex(pigrozd.Refused, told + "; the join of c with b and a is on no attribute, so "):
-            pigrozd.open_tables({name: {name: range(4096)} for name in "abc"})
-        self.assertEqual(len(pigrozd.open_tables(grouped(*ONE_LESS))), HOLD - 1)
+        self.assertEqual((refused.size, refused.size.at_least), (pigrozd.Size(HOLD, 1), True))
+        with self.assertRaisesRegex(pigrozd.Refused, told + "; the join of f with e, d, c, b and a is on no "):
+            pigrozd.open_tables({name: {name: range(4096)} for name in "abcdef"})
+        self.assertEqual(pigrozd.open_tables(grouped(*ONE_LESS)).size, pigrozd.Size(HOLD - 1, 1))
 
     def test_what_is_no_table(self):
         with self.assertRaisesRegex(TypeError, "tables come in a list"):
@@ -854,9 +1001,9 @@ class Opening(Folder):
     def test_scratch_is_found_once(self):
         with mock.patch.object(access, "call_result_at", wraps=library.call_result_at) as asked:
             opened = pigrozd.open_file(SAMPLE)
-            self.assertEqual([len(call.args[1]) for call in asked.call_args_list], [0, 96])
+            self.assertEqual([len(call.args[1]) for call in asked.call_args_list], [0, NEED])
             self.assertEqual((len(opened), opened[0], opened[-1]), (4, SAMPLE_VALUES[0], SAMPLE_VALUES[3]))
-            self.assertEqual([len(call.args[1]) for call in asked.call_args_list[2:]], [96, 96])
+            self.assertEqual([len(call.args[1]) for call in asked.call_args_list[2:]], [NEED, NEED])
 
 
 class Commands(Folder):

@@ -116,8 +116,8 @@ class Dumping(Folder):
         self.assertIn("behind the file's end", dumped(SAMPLE, answer=(1, 127))[3])
         self.assertIn("no whole plan record", dumped(SAMPLE[:50], answer=(8, 3))[3])
         self.assertIn("but this file is refused with 1 42", dumped(SAMPLE[:50], answer=(8, 3))[2])
-        self.assertEqual(dumped(SAMPLE, answer=(10, 96))[2], "answer 10 96: the scratch is too short")
-        self.assertIn("but this file needs 96 words", dumped(SAMPLE, answer=(10, 97))[2])
+        self.assertEqual(dumped(SAMPLE, answer=(10, 118))[2], "answer 10 118: the scratch is too short")
+        self.assertIn("but this file needs 118 words", dumped(SAMPLE, answer=(10, 119))[2])
         self.assertIsNone(marked(dumped(SAMPLE, answer=(11, 4))))
         self.assertIn("no more than 65,536 bytes", dumped(SAMPLE, answer=(13, 65536))[2])
         long = SAMPLE + bytes(65536)
@@ -156,7 +156,7 @@ class Dumping(Folder):
             lines[:4],
             [
                 "FILE: 126 bytes, 3 tables, 11 rows, plan (table0 (table2 table1))",
-                "within the rules: none of the answers 1 to 9 is due; the scratch needed is 96 words, a result has 4 "
+                "within the rules: none of the answers 1 to 9 is due; the scratch needed is 118 words, a result has 4 "
                 "values",
                 "the plan as sent, (table0 (table2 table1)), is not well-behaved: the join follows "
                 "(table0 (table1 table2)), bytes ff 00 ff 01 02",
@@ -169,8 +169,8 @@ class Dumping(Folder):
             ["0 join on a1; not well-behaved", "1 table 0", "2 join on a2", "3 table 2", "4 table 1"],
         )
         self.assertEqual(len(dumped(SAMPLE)) + 2, len(lines))
-        self.assertEqual(dumped(data, answer=(10, 96))[4], "answer 10 96: the scratch is too short")
-        self.assertIn("but this file needs 96 words", dumped(data, answer=(10, 95))[4])
+        self.assertEqual(dumped(data, answer=(10, 118))[4], "answer 10 118: the scratch is too short")
+        self.assertIn("but this file needs 118 words", dumped(data, answer=(10, 117))[4])
 
     def test_names_of_another_file(self):
         self.command("pack", self.at("out"), "--plan", SAMPLE_PLAN, *CSVS)
@@ -309,7 +309,7 @@ class Packing(Folder):
         self.assertIsNone(fileformat.read(self.read("out")).fault)
         t = self.write("t.csv", "a\n" + "1\n" * 4096)
         self.assertIn(
-            "note: the program says 10, it lends 16,384 words of scratch; pigrozd join takes the file with 32,768",
+            "note: the program says 10, it lends 16,384 words of scratch; pigrozd join takes the file with 40,960",
             self.pack(t)[1],
         )
 
@@ -361,8 +361,8 @@ class Packing(Folder):
         self.assertEqual(self.read("out"), SAMPLE[:121] + bytes([255, 0, 255, 2, 1]))
 
     def test_scratch_of_the_mended_plan(self):
-        """The note speaks of the words that the mended plan (a (b c)) needs: 8 a row, and the rows of a and b."""
-        for rows, note in (((910, 10, 905), ""), ((10, 1802, 10), "pigrozd join takes the file with 16,388\n")):
+        """The note speaks of the words that the mended plan (a (b c)) needs: 10 a row, and the rows of a and b."""
+        for rows, note in (((745, 10, 742), ""), ((10, 1471, 10), "pigrozd join takes the file with 16,391\n")):
             tables = [
                 self.write(name + ".csv", header + "\n" + (line + "\n") * n)
                 for name, header, line, n in zip("abc", ("x", "x,y", "y"), ("1", "1,2", "2"), rows)
@@ -591,7 +591,7 @@ class RowsOfPrints(Folder):
             status=1,
         )
         for pattern, text in {
-            r"10 96: the scratch is too short \(words needed: 96\); pigrozd join .*out has more room": "10 96",
+            r"10 118: the scratch is too short \(words needed: 118\); pigrozd join .*out has more room": "10 118",
             "11 5: .*; pigrozd join .*out has more room": "11 5",
             "13 65536: .*; pigrozd join .*out has more room": "13 65536",
             "12 0: .*; it is never given": "12 0",
@@ -612,7 +612,7 @@ class RowsOfPrints(Folder):
             "line 2: expected a row, found '4294967296": "rows 1\n4294967296 2 3 4\nsteps 1 1 1 1\n",
             "the last line has no end, so the print is not whole": "rows 1\n1 2 3 4\nsteps 1 1 1 1",
             "the last line has no end": "refused 10 9",
-            "line 2: a refusal is one line, found 'rows": "refused 10 96\nrows 0\n",
+            "line 2: a refusal is one line, found 'rows": "refused 10 118\nrows 0\n",
         }.items():
             with self.subTest(pattern):
                 self.assertEqual(
@@ -644,7 +644,7 @@ class Plans(Folder):
         self.command("pack", self.at("out"), "--plan", SAMPLE_PLAN, *CSVS)
         tree = SAMPLE_DRAWN + """
 the plan is well-behaved, and the join follows it as it is
-scratch needed: 96 words
+scratch needed: 118 words
 a result: frame, exposure, reading, centikelvin
 """
         self.assertEqual(self.command("plan", self.at("out"))[0], tree)

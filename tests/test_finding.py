@@ -240,7 +240,7 @@ class Library(Calls):
 
     def test_one_table(self):
         for rows in range(3):
-            for lent in ((8 * rows, rows), (8 * rows, 0), (0, rows)):
+            for lent in ((10 * rows, rows), (10 * rows, 0), (0, rows)):
                 self.check(file_of([Table(rows, {3: [7] * rows})], b""), *lent)
 
     def test_no_tables(self):

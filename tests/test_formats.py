@@ -201,8 +201,8 @@ class OnePlace(unittest.TestCase):
         told = {meaning.means: "answers.py" for number, meaning in MEANINGS.items() if number}
         for text, module in {'b"TB"': "fileformat.py", 'b"PL"': "fileformat.py", **told}.items():
             self.assertEqual([name for name in modules if text in modules[name]], [module], text)
-        number = sorted(name for name in modules if "4294967295" in modules[name])
-        self.assertEqual(number, ["limits.py", "values.py"])  # the highest count; the word of what was not recorded
+        for number, module in {"4294967295": "values.py", "18446744073709551615": "limits.py"}.items():
+            self.assertEqual([name for name in modules if number in modules[name]], [module])
 
 
 if __name__ == "__main__":

@@ -214,9 +214,9 @@ class Library(unittest.TestCase):
         file = SAMPLE[:118] + NO_PLAN
         result = pigrozd.join_file(file)
         self.assertEqual((result.counts, result.plan, result.found), ((7, 7, 19, 10), "(2 (1 0))", True))
-        short = pigrozd.call(file, array.array("I", bytes(4 * 94)), array.array("I", bytes(64)))
-        self.assertEqual(tuple(short)[:2], (10, 95))
-        self.assertEqual(pigrozd.call(file, array.array("I", bytes(4 * 95)), array.array("I", bytes(64))).rows, 4)
+        short = pigrozd.call(file, array.array("I", bytes(4 * 116)), array.array("I", bytes(64)))
+        self.assertEqual(tuple(short)[:2], (10, 117))
+        self.assertEqual(pigrozd.call(file, array.array("I", bytes(4 * 117)), array.array("I", bytes(64))).rows, 4)
 
     def test_drawn_files(self):
         """The same answer as to the same tables with the plan that the result names; or 14, with the detail."""
@@ -294,7 +294,7 @@ no plan was sent, and the join follows the one that is found: (readings (exposur
 frames hangs under exposures, which has all that frames still shares: exposure
 exposures hangs under readings, which has all that exposures still shares: reading
 readings is the root
-scratch needed: 95 words
+scratch needed: 117 words
 a result: frame, exposure, reading, centikelvin
 """
 STUCK = ["a=p,x", "b=p,s", "c=p,q", "d=q,r", "e=p,r"]
@@ -374,7 +374,7 @@ class Commands(Folder):
             out,
             FOUND_DRAWN.replace("frames (4 rows)", "frames (rows not known)")
             .replace("frames: 4 rows", "frames: rows not known")
-            .replace("scratch needed: 95 words\n", ""),
+            .replace("scratch needed: 117 words\n", ""),
         )
         self.assertEqual(self.command("plan", "--tables", *STUCK, status=1), (STUCK_DRAWN, ""))
         self.assertIn("\na is the root\n", self.command("plan", "--tables", "a=x")[0])
@@ -505,7 +505,7 @@ class Commands(Folder):
             [line.replace(self.at("out"), "FILE") for line in lines[:3]],
             [
                 "FILE: 121 bytes, 3 tables, 11 rows, plan of length 0: the library finds one",
-                "within the rules: none of the answers 1 to 7 and 14 is due; the scratch needed is 95 words, a "
+                "within the rules: none of the answers 1 to 7 and 14 is due; the scratch needed is 117 words, a "
                 "result has 4 values",
                 "no plan was sent, and the join follows the one that is found: (readings (exposures frames)), bytes "
                 "ff 02 ff 01 00",
@@ -516,8 +516,8 @@ class Commands(Folder):
             lines[-4:-2], ["     118  50 4c".ljust(59) + "mark of the plan", "     120  00".ljust(59) + TO_FIND]
         )
         self.assertFalse([line for line in lines if "^^" in line])
-        given = self.command("dump", self.at("out"), "--answer", "10", "95")[0]
-        self.assertIn("\nanswer 10 95: the scratch is too short\n", given)
+        given = self.command("dump", self.at("out"), "--answer", "10", "117")[0]
+        self.assertIn("\nanswer 10 117: the scratch is too short\n", given)
         for answer in ("7 0", "9 0", "14 0"):
             given = self.command("dump", self.at("out"), "--answer", *answer.split())[0]
             self.assertRegex(given, "\nanswer %s: .*; but this file is within the rules\n" % answer)

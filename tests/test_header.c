@@ -1,7 +1,8 @@
 /* Tests include/pigrozd.h as C99 and as C++ against the library: that each name of an answer is the number that is given under
  * its condition, that the limits are those at which answers change, that a plan is mended, or found where there is none, that a
  * value which was not recorded matches nothing, that the slow engine gives what the join gives, that a result is given by its
- * number and its number by its rows, and that the version is said alike everywhere.
+ * number and its number by its rows, that results are counted up to 2^64 - 1, and that the version is said alike
+ * everywhere.
  * make check-c runs it. It prints nothing and ends with 0, or prints each test that failed and ends with 1. */
 #include "pigrozd.h"
 
@@ -69,20 +70,31 @@ static void put_plan(const char *code, unsigned bytes)
         put_byte((unsigned char)code[i]);
 }
 
+/* the plan that names that many tables in rising number, joined from the left on or from the right on */
+static void put_rising_plan(unsigned tables, int from_right)
+{
+    char code[2 * PIGROZD_MOST_TABLES];
+    unsigned bytes = 0, i;
+    for (i = 1; i < tables && !from_right; i++)
+        code[bytes++] = '\377';
+    for (i = 0; i < tables; i++) {
+        if (from_right && i + 1 < tables)
+            code[bytes++] = '\377';
+        code[bytes++] = (char)i;
+    }
+    put_plan(code, bytes);
+}
+
 /* that many tables of attribute 0 with that many rows, joined from the left on */
 static void put_tables(unsigned tables, uint32_t rows)
 {
-    char code[256];
     unsigned i;
     length = 0;
     for (i = 0; i < tables; i++) {
         put_table(1, rows);
         put_column(rows);
     }
-    memset(code, 255, tables - 1);
-    for (i = 0; i < tables; i++)
-        code[tables - 1 + i] = (char)i;
-    put_plan(code, 2 * tables - 1);
+    put_rising_plan(tables, 0);
 }
 
 /* how many tables the file has; only for a file that is not refused as a file */
@@ -215,11 +227,11 @@ static void test_answers(void)
     EXPECT(PIGROZD_NOT_WELL_BEHAVED, PIGROZD_NO_HOLDER);
 
     put_tables(2, 3);
-    EXPECT(lent(50, 3).number, PIGROZD_SCRATCH_SHORT);
-    EXPECT(lent(50, 3).detail, 51);
-    EXPECT(lent(51, 3).number, PIGROZD_JOINED);
-    EXPECT(lent(51, 2).number, PIGROZD_OUTPUT_SHORT);
-    EXPECT(lent(51, 2).detail, 3);
+    EXPECT(lent(62, 3).number, PIGROZD_SCRATCH_SHORT);
+    EXPECT(lent(62, 3).detail, 63);
+    EXPECT(lent(63, 3).number, PIGROZD_JOINED);
+    EXPECT(lent(63, 2).number, PIGROZD_OUTPUT_SHORT);
+    EXPECT(lent(63, 2).detail, 3);
     EXPECT(PIGROZD_COUNTS_DIFFER, 12);
 }
 
@@ -294,15 +306,6 @@ static void test_limits(void)
         }
         EXPECT(output[PIGROZD_MOST_OUTPUT_WORDS], 5);
     }
-
-    /* a number that is held: 4,096 * 4,096 * 4,096 results */
-    length = 0;
-    for (i = 0; i < 3; i++) {
-        put_table(1u << i, PIGROZD_MOST_ROWS);
-        put_column(PIGROZD_MOST_ROWS);
-    }
-    put_plan("\377\0\377\1\2", 5);
-    EXPECT_ANSWER(PIGROZD_OUTPUT_SHORT, PIGROZD_HOLD_LIMIT);
 }
 
 /* three tables, where 0 and 1 share attribute 1, and 1 and 2 attribute 2 */
@@ -326,18 +329,18 @@ static void put_chain(void)
     put_word(6);
 }
 
-/* that the chain is joined by 2 with (1 with 0): the words needed are 8 * 7, and the rows of 2 and of 1 */
+/* that the chain is joined by 2 with (1 with 0): the words needed are 10 * 7, and the rows of 2 and of 1 */
 static void expect_chain(void)
 {
     static const uint32_t wanted[] = {9, 5, 8, 6, 9, 5, 7, 6};
     unsigned i;
 
-    EXPECT(lent(61, 8).number, PIGROZD_SCRATCH_SHORT);
-    EXPECT(lent(61, 8).detail, 62);
-    EXPECT(lent(62, 7).number, PIGROZD_OUTPUT_SHORT);
-    EXPECT(lent(62, 7).detail, 2);
+    EXPECT(lent(75, 8).number, PIGROZD_SCRATCH_SHORT);
+    EXPECT(lent(75, 8).detail, 76);
+    EXPECT(lent(76, 7).number, PIGROZD_OUTPUT_SHORT);
+    EXPECT(lent(76, 7).detail, 2);
     memset(output, 0, sizeof wanted);
-    EXPECT(lent(62, 8).number, PIGROZD_JOINED);
+    EXPECT(lent(76, 8).number, PIGROZD_JOINED);
     for (i = 0; i < 8; i++)
         EXPECT(output[i], wanted[i]);
 }
@@ -562,10 +565,10 @@ static void test_slow(void)
     EXPECT(slow_output[PIGROZD_MOST_OUTPUT_WORDS - 1], 7);
     EXPECT(slow_output[PIGROZD_MOST_OUTPUT_WORDS], 0x5a5a5a5au);
 
-    /* where the join needs 62 words of scratch */
+    /* where the join needs 76 words of scratch */
     put_chain();
     put_plan("\377\0\377\2\1", 5);
-    EXPECT(lent(61, 8).number, PIGROZD_SCRATCH_SHORT);
+    EXPECT(lent(75, 8).number, PIGROZD_SCRATCH_SHORT);
     EXPECT_SLOW(8, PIGROZD_JOINED, 0, 2);
     EXPECT(slow_output[2], 8);
     EXPECT(slow_output[6], 7);
@@ -675,19 +678,22 @@ static void test_one_result(void)
     put_sample("\377\0\377\1\2", 5);
     EXPECT(length, 126);
     EXPECT_ANSWER(PIGROZD_JOINED, 0);
+    EXPECT(lent(117, 16).number, PIGROZD_SCRATCH_SHORT);
+    EXPECT(lent(117, 16).detail, 118);
+    EXPECT(lent(118, 16).number, PIGROZD_JOINED);
     for (n = 0; n < 4; n++) {
-        expect_there_and_back(96, n, values[n], 4, rows[n], 3);
-        expect_there_and_back(100, n, values[n], 4, rows[n], 3);
+        expect_there_and_back(118, n, values[n], 4, rows[n], 3);
+        expect_there_and_back(122, n, values[n], 4, rows[n], 3);
     }
 
     /* the chain is joined by 2 with (1 with 0), mended or found: rows are told by table number all the same */
     for (n = 0; n < 2; n++) {
         put_chain();
         put_plan("\377\0\377\2\1", 5);
-        expect_there_and_back(62, n, chain_values[n], 4, chain_rows[n], 3);
+        expect_there_and_back(76, n, chain_values[n], 4, chain_rows[n], 3);
         put_chain();
         put_plan("", 0);
-        expect_there_and_back(62, n, chain_values[n], 4, chain_rows[n], 3);
+        expect_there_and_back(76, n, chain_values[n], 4, chain_rows[n], 3);
     }
 }
 
@@ -702,23 +708,23 @@ static void test_no_result(void)
     unsigned i;
 
     put_sample("\377\0\377\1\2", 5);
-    EXPECT_RESULT(95, 0, 4, PIGROZD_SCRATCH_SHORT, 96);
-    EXPECT_RESULT(95, 4, 3, PIGROZD_SCRATCH_SHORT, 96);
-    EXPECT_RESULT(0, 0, 0, PIGROZD_SCRATCH_SHORT, 96);
-    EXPECT_RESULT(96, 0, 3, PIGROZD_ROW_SHORT, 4);
-    EXPECT_RESULT(96, 4, 3, PIGROZD_ROW_SHORT, 4);
-    EXPECT_RESULT(96, 0, 0, PIGROZD_ROW_SHORT, 4);
-    EXPECT_RESULT(96, 4, 4, PIGROZD_NO_SUCH_RESULT, 4);
-    EXPECT_RESULT(96, (uint64_t)1 << 32, 4, PIGROZD_NO_SUCH_RESULT, 4);
-    EXPECT_RESULT(96, (uint64_t)-1, 4, PIGROZD_NO_SUCH_RESULT, 4);
+    EXPECT_RESULT(117, 0, 4, PIGROZD_SCRATCH_SHORT, 118);
+    EXPECT_RESULT(117, 4, 3, PIGROZD_SCRATCH_SHORT, 118);
+    EXPECT_RESULT(0, 0, 0, PIGROZD_SCRATCH_SHORT, 118);
+    EXPECT_RESULT(118, 0, 3, PIGROZD_ROW_SHORT, 4);
+    EXPECT_RESULT(118, 4, 3, PIGROZD_ROW_SHORT, 4);
+    EXPECT_RESULT(118, 0, 0, PIGROZD_ROW_SHORT, 4);
+    EXPECT_RESULT(118, 4, 4, PIGROZD_NO_SUCH_RESULT, 4);
+    EXPECT_RESULT(118, (uint64_t)1 << 32, 4, PIGROZD_NO_SUCH_RESULT, 4);
+    EXPECT_RESULT(118, (uint64_t)-1, 4, PIGROZD_NO_SUCH_RESULT, 4);
 
-    EXPECT_NUMBER(95, zeros, 3, PIGROZD_SCRATCH_SHORT, 96, 0);
-    EXPECT_NUMBER(95, zeros, 2, PIGROZD_SCRATCH_SHORT, 96, 0);
+    EXPECT_NUMBER(117, zeros, 3, PIGROZD_SCRATCH_SHORT, 118, 0);
+    EXPECT_NUMBER(117, zeros, 2, PIGROZD_SCRATCH_SHORT, 118, 0);
     for (i = 0; i <= PIGROZD_MOST_TABLES; i++)
         if (i != 3)
-            EXPECT_NUMBER(96, zeros, i, PIGROZD_NOT_A_RESULT, 0, 0);
+            EXPECT_NUMBER(118, zeros, i, PIGROZD_NOT_A_RESULT, 0, 0);
     for (i = 0; i < sizeof wrong / sizeof wrong[0]; i++)
-        EXPECT_NUMBER(96, wrong[i], 3, PIGROZD_NOT_A_RESULT, 0, 0);
+        EXPECT_NUMBER(118, wrong[i], 3, PIGROZD_NOT_A_RESULT, 0, 0);
 
     /* no result at all, and no scratch needed: the row comes first */
     put_masks(masks, 2);
@@ -731,8 +737,186 @@ static void test_no_result(void)
     put_row(3, 7, PIGROZD_NOT_RECORDED);
     put_row(6, PIGROZD_NOT_RECORDED, 9);
     put_plan("\377\0\1", 3);
-    EXPECT_RESULT(17, 0, 3, PIGROZD_NO_SUCH_RESULT, 0);
-    EXPECT_NUMBER(17, zeros, 2, PIGROZD_NOT_A_RESULT, 0, 0);
+    EXPECT_RESULT(21, 0, 3, PIGROZD_NO_SUCH_RESULT, 0);
+    EXPECT_NUMBER(21, zeros, 2, PIGROZD_NOT_A_RESULT, 0, 0);
+}
+
+/* ---- many results */
+
+/* the number of results, by an output of no words */
+static void expect_results(uint64_t wanted)
+{
+    pigrozd_answer given = lent(PIGROZD_MOST_SCRATCH_WORDS, 0);
+    EXPECT(given.number, PIGROZD_OUTPUT_SHORT);
+    EXPECT(given.detail, wanted);
+    EXPECT(given.rows, 0);
+    EXPECT(given.entries + given.lookups + given.comparisons + given.visits, 0);
+}
+
+/* so many results that they have no numbers: both functions say so before they look at n, the row or the row numbers */
+static void expect_too_many(void)
+{
+    static const uint32_t zeros[PIGROZD_MOST_TABLES] = {0};
+    const size_t words = PIGROZD_MOST_SCRATCH_WORDS;
+
+    expect_results(PIGROZD_HOLD_LIMIT);
+    EXPECT_RESULT(words, 0, PIGROZD_MOST_ATTRIBUTES, PIGROZD_OUTPUT_SHORT, PIGROZD_HOLD_LIMIT);
+    EXPECT_RESULT(words, PIGROZD_HOLD_LIMIT, 0, PIGROZD_OUTPUT_SHORT, PIGROZD_HOLD_LIMIT);
+    EXPECT_NUMBER(words, zeros, count_tables(), PIGROZD_OUTPUT_SHORT, PIGROZD_HOLD_LIMIT, 0);
+    EXPECT_NUMBER(words, zeros, 0, PIGROZD_OUTPUT_SHORT, PIGROZD_HOLD_LIMIT, 0);
+}
+
+/* that many tables of attribute 0 with 16 rows of one value: 16^tables results */
+static void put_equal(unsigned tables, int from_right)
+{
+    unsigned i, y;
+    length = 0;
+    for (i = 0; i < tables; i++) {
+        put_table(1, 16);
+        for (y = 0; y < 16; y++)
+            put_word(7);
+    }
+    put_rising_plan(tables, from_right);
+}
+
+/* results are counted without an output, exactly up to the limit */
+static void test_counted(void)
+{
+    static const uint32_t most[] = {4096, 4096, 4096, 4096, 4096, 4096};
+    int from_right;
+    unsigned tables;
+
+    EXPECT(PIGROZD_HOLD_LIMIT, (uint64_t)-1);
+    EXPECT(sizeof PIGROZD_HOLD_LIMIT, 8);
+
+    put_sample("\377\0\377\1\2", 5);
+    expect_results(4);
+    put_tables(2, 0);
+    EXPECT(lent(0, 0).number, PIGROZD_JOINED);
+    EXPECT(lent(0, 0).rows, 0);
+
+    for (from_right = 0; from_right < 2; from_right++) {
+        for (tables = 1; tables < 16; tables++) {
+            put_equal(tables, from_right);
+            expect_results((uint64_t)1 << (4 * tables));
+        }
+        put_equal(16, from_right);
+        expect_too_many();
+    }
+
+    put_apart(most, 5, "\377\0\377\1\377\2\377\3\4", 9);
+    expect_results((uint64_t)1 << 60);
+    put_apart(most, 6, "\377\0\377\1\377\2\377\3\377\4\5", 11);
+    expect_too_many();
+}
+
+/* how many rows of a key a table of put_powers has */
+static unsigned power_rows(unsigned table, unsigned key, unsigned first)
+{
+    if (table == 0)
+        return key == 0 ? first : 15;
+    return table <= key ? 16 : 1;
+}
+
+/* 16 tables of attribute 0 with so many keys, from 0 on. Of key j the first table has 15 rows, the next j tables have
+ * 16 and the others one. So key j has 15 * 16^j results, and all keys together have 16^keys - 1. But of key 0 the first
+ * table has as many rows as first says */
+static void put_powers(unsigned keys, unsigned first, int from_right)
+{
+    unsigned table, key, y;
+    length = 0;
+    for (table = 0; table < PIGROZD_MOST_TABLES; table++) {
+        uint32_t rows = 0;
+        for (key = 0; key < keys; key++)
+            rows += power_rows(table, key, first);
+        put_table(1, rows);
+        for (key = 0; key < keys; key++)
+            for (y = 0; y < power_rows(table, key, first); y++)
+                put_word(key);
+    }
+    put_rising_plan(PIGROZD_MOST_TABLES, from_right);
+}
+
+/* Result number n of such a file, there and back. n + 16 - first has key + 1 hexadecimal digits. The highest one says
+ * which row of the first table the result has, among those of its key, and the others say it of the next tables */
+static void expect_power(uint64_t n, unsigned first)
+{
+    uint64_t digits = n + 16 - first;
+    uint32_t rows[PIGROZD_MOST_TABLES], key = 0;
+    unsigned table;
+
+    while (digits >> (4 * key) >= 16)
+        key++;
+    rows[0] = 15 * key + (uint32_t)(digits >> (4 * key)) + first - 16;
+    for (table = 1; table < PIGROZD_MOST_TABLES; table++) {
+        rows[table] = key;
+        if (table <= key)
+            rows[table] = table + 16 * (key - table) + (uint32_t)(digits >> (4 * (key - table)) & 15);
+    }
+    expect_there_and_back(PIGROZD_MOST_SCRATCH_WORDS, n, &key, 1, rows, PIGROZD_MOST_TABLES);
+}
+
+/* such a file, if it has fewer results than the limit: their number, and results from both ends and from the middle */
+static void expect_powers(unsigned keys, unsigned first, int from_right)
+{
+    const uint64_t results = ((uint64_t)-1 >> (64 - 4 * keys)) + first - 15;
+    uint64_t power;
+
+    put_powers(keys, first, from_right);
+    expect_results(results);
+    for (power = 1; power < results / 8; power *= 8) {
+        expect_power(power - 1, first);
+        expect_power(power, first);
+        expect_power(results - power, first);
+    }
+    expect_power(results / 2, first);
+    EXPECT_RESULT(PIGROZD_MOST_SCRATCH_WORDS, results, 1, PIGROZD_NO_SUCH_RESULT, results);
+    EXPECT_RESULT(PIGROZD_MOST_SCRATCH_WORDS, PIGROZD_HOLD_LIMIT, 1, PIGROZD_NO_SUCH_RESULT, results);
+}
+
+/* around 2^32 results, which all have numbers, and around 2^64: 2^64 - 2 are the most that have numbers */
+static void test_most_results(void)
+{
+    int from_right;
+
+    for (from_right = 0; from_right < 2; from_right++) {
+        expect_powers(8, 14, from_right);
+        expect_powers(8, 15, from_right);
+        put_powers(8, 16, from_right);
+        expect_results((uint64_t)1 << 32);
+        expect_powers(9, 15, from_right);
+        expect_powers(16, 14, from_right);
+        put_powers(16, 15, from_right);
+        expect_too_many();
+        put_powers(16, 16, from_right);
+        expect_too_many();
+    }
+}
+
+/* A group whose total is held, and which no result uses: 15 tables have 64 rows of key 0 and one of key 1, and the first
+ * table has key 1 alone. So there is one result, which is written and has a number */
+static void test_held_group(void)
+{
+    static const uint32_t rows[PIGROZD_MOST_TABLES] = {0, 64, 64, 64, 64, 64, 64, 64, 64, 64, 64, 64, 64, 64, 64, 64};
+    static const uint32_t key = 1;
+    unsigned table, y;
+    pigrozd_answer given;
+
+    length = 0;
+    put_table(1, 1);
+    put_word(key);
+    for (table = 1; table < PIGROZD_MOST_TABLES; table++) {
+        put_table(1, 65);
+        for (y = 0; y < 65; y++)
+            put_word(y < 64 ? 0 : key);
+    }
+    put_rising_plan(PIGROZD_MOST_TABLES, 1);
+    expect_results(1);
+    given = lent(PIGROZD_MOST_SCRATCH_WORDS, 1);
+    EXPECT(given.number, PIGROZD_JOINED);
+    EXPECT(given.rows, 1);
+    EXPECT(output[0], key);
+    expect_there_and_back(PIGROZD_MOST_SCRATCH_WORDS, 0, &key, 1, rows, PIGROZD_MOST_TABLES);
 }
 
 /* three tables of attribute 0. Each has rows for each of so many keys, and counts says how many */
@@ -754,28 +938,39 @@ static void put_groups(const uint32_t (*counts)[3], unsigned keys)
     put_plan("\377\0\377\1\2", 5);
 }
 
-/* the most results that have numbers: five keys have 4,294,967,294 results, and a sixth has one */
-static void test_most_results(void)
+/* result number n of such a file: the results of a key stand behind those of the keys before it */
+static void expect_in_group(const uint32_t (*counts)[3], uint64_t n)
 {
-    static const uint32_t counts[6][3] = {
-        {1626, 1625, 1625}, {110, 109, 109}, {16, 16, 16}, {4, 3, 3}, {2, 1, 1}, {1, 1, 1}
+    uint32_t rows[3] = {0, 0, 0}, key;
+    uint64_t rest = n;
+    unsigned i;
+
+    for (key = 0; rest >= (uint64_t)counts[key][0] * counts[key][1] * counts[key][2]; key++) {
+        rest -= (uint64_t)counts[key][0] * counts[key][1] * counts[key][2];
+        for (i = 0; i < 3; i++)
+            rows[i] += counts[key][i];
+    }
+    rows[0] += (uint32_t)(rest / counts[key][2] / counts[key][1]);
+    rows[1] += (uint32_t)(rest / counts[key][2] % counts[key][1]);
+    rows[2] += (uint32_t)(rest % counts[key][2]);
+    expect_there_and_back(PIGROZD_MOST_SCRATCH_WORDS, n, &key, 1, rows, 3);
+}
+
+/* three keys, of which the first and the last have more than 2^32 results each */
+static void test_large_groups(void)
+{
+    static const uint32_t counts[3][3] = {{2000, 1999, 1997}, {3, 2, 1}, {2090, 2087, 2083}};
+    const uint64_t before = (uint64_t)2000 * 1999 * 1997, results = before + 6 + (uint64_t)2090 * 2087 * 2083;
+    const uint64_t numbers[] = {
+        0, 4000, (uint64_t)1 << 32, before - 1, before, before + 5, before + 6, results / 2 + 4000, results - 1
     };
-    static const uint32_t rows[3][3] = {{0, 0, 0}, {0, 2, 750}, {1757, 1753, 1753}}, keys[] = {0, 4};
-    const size_t words = PIGROZD_MOST_SCRATCH_WORDS;
+    unsigned i;
 
-    put_groups(counts, 5);
-    EXPECT_ANSWER(PIGROZD_OUTPUT_SHORT, PIGROZD_HOLD_LIMIT - 1);
-    expect_there_and_back(words, 0, &keys[0], 1, rows[0], 3);
-    expect_there_and_back(words, 4000, &keys[0], 1, rows[1], 3);
-    expect_there_and_back(words, PIGROZD_HOLD_LIMIT - 2, &keys[1], 1, rows[2], 3);
-    EXPECT_RESULT(words, PIGROZD_HOLD_LIMIT - 1, 1, PIGROZD_NO_SUCH_RESULT, PIGROZD_HOLD_LIMIT - 1);
-
-    /* so many are refused, before the row and its number are looked at */
-    put_groups(counts, 6);
-    EXPECT_RESULT(words, 0, 1, PIGROZD_OUTPUT_SHORT, PIGROZD_HOLD_LIMIT);
-    EXPECT_RESULT(words, (uint64_t)-1, 0, PIGROZD_OUTPUT_SHORT, PIGROZD_HOLD_LIMIT);
-    EXPECT_NUMBER(words, rows[0], 3, PIGROZD_OUTPUT_SHORT, PIGROZD_HOLD_LIMIT, 0);
-    EXPECT_NUMBER(words, rows[0], 0, PIGROZD_OUTPUT_SHORT, PIGROZD_HOLD_LIMIT, 0);
+    put_groups(counts, 3);
+    expect_results(results);
+    for (i = 0; i < sizeof numbers / sizeof numbers[0]; i++)
+        expect_in_group(counts, numbers[i]);
+    EXPECT_RESULT(PIGROZD_MOST_SCRATCH_WORDS, results, 1, PIGROZD_NO_SUCH_RESULT, results);
 }
 
 static void test_lengths(void)
@@ -813,7 +1008,10 @@ int main(void)
     test_slow();
     test_one_result();
     test_no_result();
+    test_counted();
     test_most_results();
+    test_held_group();
+    test_large_groups();
     test_lengths();
     test_version();
     return failures == 0 ? 0 : 1;

@@ -122,8 +122,8 @@ class Joining(Folder):
         a = self.write("a.csv", "x\n" + "1\n" * 4096)
         b = self.write("b.csv", "y\n" + "1\n" * 4096)
         self.fails(
-            r"refused 11 16777216: .*: there are 16,777,216 results of 2 values, and the longest output "
-            r"\(1,048,576 words\) "
+            r"refused 11 16777216: .*: there are 16,777,216 results of 2 values, which take 134,217,728 bytes, and "
+            r"the longest output \(1,048,576 words\) "
             "fits 524,288; the join of a with b is on no attribute",
             "join",
             a,

@@ -301,7 +301,7 @@ as mended:
 the plan as sent, (frames (readings exposures)), is not well-behaved: the join follows (frames (exposures readings)), \
 bytes ff 00 ff 01 02
 penalty: 3 rows = 3 (readings, at byte 2 as sent)
-scratch needed: 96 words
+scratch needed: 118 words
 a result: frame, exposure, reading, centikelvin
 """ % SAMPLE_DRAWN
 

@@ -3,6 +3,7 @@ products and sums of totals at every edge are document 01's. Needs objdump and n
 import array
 import functools
 import os
+import random
 import re
 import subprocess
 import unittest
@@ -14,8 +15,15 @@ from support import Folder, path
 import pigrozd
 
 BUILT = [path("target", "lib", name) for name in ("libpigrozd.a", "libpigrozd.so")]
-POWERS = [1 << i for i in range(33)]
-EDGES = sorted({0, HOLD - 1, HOLD, *POWERS, *(n - 1 for n in POWERS), *(n + 1 for n in POWERS)})
+
+
+def edges(bits):
+    """The powers of two up to this one, and what stands beside them."""
+    return sorted({(1 << i) + beside for i in range(bits + 1) for beside in (-1, 0, 1)})
+
+
+NARROW, WIDE = edges(33), edges(64)
+FEW = (0, 1, 2, 3, 2**16 - 1, 2**16, 2**16 + 1, 2**31, 2**32 - 1, 2**32, 2**32 + 1)  # of the narrow ones
 
 
 # ---- multiplications of a built file
@@ -69,50 +77,101 @@ class Multiplications(Folder):
 
 # ---- totals
 @functools.lru_cache(maxsize=None)
-def tables_of(total, key, first):
-    """Seven tables. Rows of the first one that have 1 in the attribute `key` have this total together: that of each is
-    a power of 32, the product of what it finds in the six others, and there are as many as the digit to base 32 says.
-    A row that has 2 there has the total 1. The six share the attributes from `first` on with the first, one each."""
-    ladder = range(first, first + 6)
-    powers = [power for power in range(7) for _ in range(total // 32**power % 32)]
-    rows = [(1, *(int(a - first < power) for a in ladder)) for power in powers]
-    return b"".join([table((key, *ladder), *rows, (2, *[0] * 6)), *(table((a,), *[(1,)] * 32, (0,)) for a in ladder)])
+def tables_of(total, key, first, base, ladder):
+    """A table, and behind it so many others as `ladder` says. Rows of the first one that have 1 in the attribute `key`
+    have this total together: that of each is a power of the base, the product of what it finds in the others, and
+    there are as many as the digit says, or of the highest power as are needed. A row that has 2 there has the total 1.
+    The others share the attributes from `first` on with the first, one each."""
+    held = range(first, first + ladder)
+    digits = [total // base**power % base for power in range(ladder)] + [total // base**ladder]
+    powers = [power for power, digit in enumerate(digits) for _ in range(digit)]
+    rows = [(1, *(int(a - first < power) for a in held)) for power in powers]
+    rows.append((2, *[0] * ladder))
+    return b"".join([table((key, *held), *rows), *(table((a,), *[(1,)] * base, (0,)) for a in held)])
 
 
-PLAN = [FF, FF, 0, *[FF] * 6, *range(1, 8), *[FF] * 6, *range(8, 15)]
+WIDE_PLAN, NARROW_PLAN = [*[FF] * 7, *range(1, 9)], [*[FF] * 6, *range(9, 16)]
+
+
+def two_totals(rows, wide, narrow, wide_first=True):
+    """A file of 16 tables. The rows of the first-named one, of attributes 0 and 1, find two groups: where they have 1
+    in attribute 0, one with the total `wide`, which may pass 64 bits; and where they have 1 in attribute 1, one with
+    the total `narrow`, of up to 36 bits. Where they have 2, the group has the total 1. The wide one is found first, or
+    last."""
+    tables = [table((0, 1), *rows), tables_of(wide, 0, 2, 256, 7), tables_of(narrow, 1, 9, 32, 6)]
+    plans = (WIDE_PLAN, NARROW_PLAN) if wide_first else (NARROW_PLAN, WIDE_PLAN)
+    return file(tables, FF, FF, 0, *plans[0], *plans[1])
+
+
+def drawn(seed):
+    """600 pairs of numbers of any length: of up to 64 bits, and of up to 34."""
+    chance = random.Random(seed)
+    for _ in range(600):
+        yield tuple(chance.getrandbits(chance.randrange(1, bits + 1)) for bits in (64, 34))
 
 
 class Totals(unittest.TestCase):
+    """Totals of up to 64 bits, across 16, 32, 48 and 64 of them."""
+
     def setUp(self):
-        self.scratch, self.output = array.array("I", [0]) * 16384, array.array("I")
+        self.scratch, self.output = array.array("I", [0]) * 131072, array.array("I")
 
-    def check(self, a, b, rows, results):
-        """The rows of the first-named table find groups with the totals a and b, and this many results come of it."""
-        data = file([table((0, 1), *rows), tables_of(a, 0, 2), tables_of(b, 1, 8)], *PLAN)
-        answer = pigrozd.call(data, self.scratch, self.output)
-        self.assertEqual(answer[:2], (11, results) if results else (0, 0), (a, b))
+    def check(self, rows, wide, narrow, wide_first, results):
+        """This many results come of the two groups that the rows of the first-named table find."""
+        answer = pigrozd.call(two_totals(rows, wide, narrow, wide_first), self.scratch, self.output)
+        self.assertEqual(answer[:2], (11, results) if results else (0, 0), (wide, narrow, wide_first))
 
-    def check_product(self, a, b):
-        """One row finds both groups: its total is their product."""
-        self.check(a, b, [(1, 1)], min(min(a, HOLD) * min(b, HOLD), HOLD))
+    def check_product(self, wide, narrow):
+        """One row finds both groups, in either order: its total is their product."""
+        for wide_first in (True, False):
+            self.check([(1, 1)], wide, narrow, wide_first, min(min(wide, HOLD) * narrow, HOLD))
 
-    def test_products(self):
-        for a in EDGES:
-            for b in EDGES:
-                self.check_product(a, b)
+    def check_sum(self, wide, narrow):
+        """One row finds the first group, the other the second: the total is the sum. In either order of the rows."""
+        for rows in ([(1, 2), (2, 1)], [(2, 1), (1, 2)]):
+            self.check(rows, wide, narrow, True, min(min(wide, HOLD) + narrow, HOLD))
+
+    def test_totals(self):
+        """Each group alone."""
+        for total in [*WIDE, 3 * 2**64, 4000 * 256**7]:
+            self.check([(1, 2)], total, 5, True, min(total, HOLD))
+        for total in [*NARROW, 2**36 - 1]:
+            self.check([(2, 1)], 5, total, True, total)
+
+    def test_narrow_products(self):
+        for a in NARROW:
+            for b in NARROW:
+                self.check([(1, 1)], a, b, True, min(a * b, HOLD))
+
+    def test_wide_products(self):
+        for wide in WIDE:
+            for narrow in FEW:
+                self.check_product(wide, narrow)
 
     def test_products_around_the_limit(self):
         """The largest product of each number that is not past the limit, and the next one."""
-        for a in EDGES[1:]:
-            for b in (HOLD // a, HOLD // a + 1):
-                self.check_product(a, b)
-                self.check_product(b, a)
+        for narrow in NARROW[1:]:
+            for wide in (HOLD // narrow, HOLD // narrow + 1):
+                self.check_product(wide, narrow)
+
+    def test_drawn_products(self):
+        for wide, narrow in drawn(47):
+            self.check_product(wide, narrow)
 
     def test_sums(self):
-        """One row finds the first group, the other the second: the total is the sum."""
-        for a in EDGES:
-            for b in EDGES:
-                self.check(a, b, [(1, 2), (2, 1)], min(a + b, HOLD))
+        for wide in WIDE:
+            for narrow in FEW:
+                self.check_sum(wide, narrow)
+
+    def test_sums_around_the_limit(self):
+        """The sum is one less than the limit, the limit itself, and one more."""
+        for narrow in NARROW:
+            for beside in (-1, 0, 1):
+                self.check_sum(HOLD - narrow + beside, narrow)
+
+    def test_drawn_sums(self):
+        for wide, narrow in drawn(53):
+            self.check_sum(wide, narrow)
 
 
 if __name__ == "__main__":

@@ -384,8 +384,8 @@ class Refusals(unittest.TestCase):
             11,
             513 * 1024,
             None,
-            r"there are 525,312 results of 2 values, and the longest output \(1,048,576 words\) fits "
-            "524,288; the join of left with right is on no attribute, so that every pair matches",
+            r"there are 525,312 results of 2 values, which take 4,202,496 bytes, and the longest output \(1,048,576 "
+            r"words\) fits 524,288; the join of left with right is on no attribute, so that every pair matches",
             pigrozd.join,
             pairs(513, 1024),
             "(left right)",
@@ -411,9 +411,9 @@ class Refusals(unittest.TestCase):
         )
         self.refused(
             11,
-            4294967295,
+            4096**3,
             None,
-            "at least 4,294,967,295 results of 3 values",
+            "there are 68,719,476,736 results of 3 values, which take 824,633,720,832 bytes, and ",
             pigrozd.join,
             [{a: range(4096)} for a in range(3)],
             (0, (1, 2)),

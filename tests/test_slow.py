@@ -210,8 +210,8 @@ class Limit(Engine):
         self.assertEqual(self.answer(ring), (14, 0, 0))
         self.assertEqual(self.answer(ring, (0, (1, 2))), (9, 0, 0))
         file = pigrozd.make_file(past)
-        self.assertEqual(pigrozd.call(file, words(), words())[:2], (10, 17416))
-        self.assertEqual(pigrozd.call(SAMPLE, words(), words())[:2], (10, 96))
+        self.assertEqual(pigrozd.call(file, words(), words())[:2], (10, 21514))
+        self.assertEqual(pigrozd.call(SAMPLE, words(), words())[:2], (10, 118))
         self.assertEqual(self.slow(SAMPLE, 16)[0], (0, 0, 4))
 
 
@@ -427,10 +427,10 @@ class Program(unittest.TestCase):
         self.assertGreater(seen["skipped"], 15)
 
     def test_both_refuse(self):
-        self.assertEqual(self.printed(pigrozd.make_file(sevens(4096, 4096))), "skipped 10 69632 0 15 0 0\n")
-        self.assertEqual(self.printed(pigrozd.make_file(sevens(1000, 1000))), "skipped 10 17000 0 11 1000000 0\n")
+        self.assertEqual(self.printed(pigrozd.make_file(sevens(4096, 4096))), "skipped 10 86016 0 15 0 0\n")
+        self.assertEqual(self.printed(pigrozd.make_file(sevens(1000, 1000))), "skipped 10 21000 0 11 1000000 0\n")
         self.assertEqual(self.printed(pigrozd.make_file(sevens(103, 102, 102))), "skipped 11 1071612 0 15 0 0\n")
-        self.assertEqual(self.printed(pigrozd.make_file(sevens(900, 900))), "same 11 810000 0\n")
+        self.assertEqual(self.printed(pigrozd.make_file(sevens(780, 780))), "same 11 608400 0\n")
 
     def test_long_input(self):
         self.assertEqual(self.printed(bytes(65537)), "refused 13 65536\n")

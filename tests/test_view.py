@@ -16,6 +16,7 @@ import unittest
 from unittest import mock
 
 from support import CSVS, SAMPLE, SAMPLE_PLAN, Folder, path
+from test_access import ONE_LESS, grouped
 
 import pigrozd
 from pigrozd import access, fileformat, names, screens, viewing
@@ -122,12 +123,18 @@ class Printing(Folder):
         self.refused("refused 17 0: .*: none has no row 0: it has no rows$", none, "--find", "0")
 
     def test_many_results(self):
-        """Only what is shown is read, of 4,194,304,000 results."""
+        """Only what is shown is read, of 4,194,304,000 results; and of 1,152,921,504,606,846,976."""
         given = (self.column("a", 4096), self.column("b", 1024), self.column("c", 1000), "--plan", "(a (b c))")
         for n in (0, 4000, 123456789, 4194303999):
             cells = self.page(*given, "--at", str(n), "--rows", "1").split()[4:]
             self.assertEqual(list(map(int, cells)), [n, n // 1024000, n // 1000 % 1024, n % 1000])
         self.assertEqual(self.page(*given, "--at", "4194303990").count("\n"), 11)
+        huge = [self.column(name, 16) for name in "abcdefghijklmno"]
+        plan = " ".join("(" + name for name in "abcdefghijklmn") + " o" + ")" * 14
+        for n in (0, 2**32, 2**59 + 7, 16**15 - 1):
+            row = self.page(*huge, "--plan", plan, "--at", "{:,}".format(n), "--rows", "1").split()[16:]
+            self.assertEqual(list(map(int, row)), [n, *(int(digit, 16) for digit in "%015x" % n)])
+            self.assertEqual(row, self.page(*huge, "--plan", plan, "--find", ",".join(row[1:])).split()[16:32])
         with mock.patch.object(access, "call_result_at", wraps=access.call_result_at) as asked:
             self.assertEqual(self.page(*given, "--at", "4,000").count("\n"), 41)
         self.assertLess(asked.call_count, 45)
@@ -159,10 +166,10 @@ class Printing(Folder):
 
     def test_too_many_results(self):
         told = (
-            "refused 11 4294967295: .*: there are 4,294,967,295 results or more, and results cannot be numbered then; "
-            "the join of a with b and c is on no attribute, so that every pair matches"
+            "refused 11 18446744073709551615: .*: there are 18,446,744,073,709,551,615 results or more, and results "
+            "cannot be numbered then; the join of f with e, d, c, b and a is on no attribute, so that every pair "
         )
-        self.refused(told, *(self.column(name, 4096) for name in "abc"), "--plan", "(a (b c))")
+        self.refused(told, *(self.column(name, 4096) for name in "abcdef"))
 
     def test_usage(self):
         for told, *arguments in (
@@ -364,6 +371,31 @@ class Views(Viewing):
         for keys in (["down"], [" "], ["G"], ["g"], ["up"], ["r"], ["right"], ["b"]):
             self.assertEqual(self.press(view, *keys)[0], [])
         self.assertEqual(self.press(view, "0", "enter")[1], ["there are no results"])
+
+    def test_many_results(self):
+        """18,446,744,073,709,551,614 of them: numbers of 20 digits, of which none is cut where a line is too short."""
+        view = self.view(grouped(*ONE_LESS))
+        most = 2**64 - 2
+        first = ["results 0 to 9 of 18,446,744,073,709,551,614, q: quit, ?: help"]
+        self.assertEqual(self.shown(view), (list(range(10)), first))
+        shown, told = self.press(view, "G")
+        self.assertEqual(shown, list(range(most - 10, most)))
+        self.assertEqual(told[0][:69], "from result 18,446,744,073,709,551,604 of 18,446,744,073,709,551,614,")
+        both = "results 18,446,744,073,709,551,604 to 18,446,744,073,709,551,613 of 18,446,744,073,709,551,614"
+        self.assertEqual(self.shown(view, width=112)[1], [both + ", q: quit, ?: help"])
+        self.assertEqual(self.shown(view, width=len(both))[1], [both])
+        self.assertEqual(self.press(view, *":9,223,372,036,854,775,808", "enter")[0], [2**63 + n for n in range(10)])
+        self.assertEqual(self.press(view, "page down", "up")[0], [2**63 + n for n in range(9, 19)])
+        shown, told = self.press(view, *str(most - 1), "enter")
+        last = "result 18,446,744,073,709,551,613 of 18,446,744,073,709,551,614"
+        self.assertEqual((shown, told[0][: len(last)]), ([most - 1], last))
+        self.assertEqual(self.press(view, "down")[0], [most - 1])
+        shown, told = self.press(view, *":18446744073709551614", "enter")
+        self.assertEqual(shown, [most - 1])
+        wanted = "there are 18,446,744,073,709,551,614 results, numbers 0 to 18446744073709551613, and no result "
+        self.assertEqual(" ".join(told), wanted + "18446744073709551614")
+        rows = view.tables.result(2**63 + 5).rows
+        self.assertEqual(self.press(view, "/", *" ".join(map(str, rows)), "enter")[0][0], 2**63 + 5)
 
     def test_what_is_read(self):
         """Each result that is shown once, and no others."""
@@ -680,6 +712,29 @@ class Viewer(Terminal):
         found = lines_of(WITH_ROWS, 0, 2, 3, 4).splitlines()
         self.shows(*found, "", "", "results 1 to 3 of 4, q: quit, ?: help")
         self.keys("r", "q")
+        self.ends()
+
+    def test_many_results(self):
+        """Numbers of 20 digits are typed and shown whole."""
+        data = pigrozd.make_file(grouped(*ONE_LESS))
+        opened, here = pigrozd.open_file(data), self.write("many", data)
+
+        def page(first, count, told):
+            shown = ["%20d  %2d" % (n, *opened[n]) for n in range(first, first + count)]
+            return ["%20s  a0" % "n", *shown, *[""] * (3 - count), told]
+
+        self.start(here, "--at", "12,345,678,901,234,567,890", height=5)
+        first = "from result 12,345,678,901,234,567,890 of 18,446,744,073,709,551,614, q: quit, ?"
+        self.shows(*page(12345678901234567890, 3, first[:79].rstrip()))
+        self.keys(":", "18446744073709551613", "enter")
+        last = "result 18,446,744,073,709,551,613 of 18,446,744,073,709,551,614, q: quit, ?: help"
+        self.shows(*page(2**64 - 3, 1, last[:79].rstrip()))
+        self.keys("g")
+        self.shows(*page(0, 3, "results 0 to 2 of 18,446,744,073,709,551,614, q: quit, ?: help"))
+        self.keys("G")
+        first = "from result 18,446,744,073,709,551,611 of 18,446,744,073,709,551,614, q: quit, ?"
+        self.shows(*page(2**64 - 5, 3, first[:79].rstrip()))
+        self.keys("q")
         self.ends()
 
     def test_start_by_rows(self):

@@ -1,7 +1,8 @@
 #!/bin/sh
 # Tests examples/c/view_page.c, built as $1: on the sample file it prints what is expected; on the file of every sample its pages are
-# those of the rows that examples/c/join_file.c, built as $2, prints, and what that refuses before 11 it refuses alike; each number is
-# found back; and its status says what became of the page. make check-c runs it from the top of the repository.
+# those of the rows that examples/c/join_file.c, built as $2, prints, and what that refuses before 11 it refuses alike; it
+# shows results with numbers above 2^32 and 2^63, and refuses 2^64 results; each number is found back; and its status says
+# what became of the page. make check-c runs it from the top of the repository.
 set -u
 view_page=$1
 join_file=$2
@@ -33,6 +34,14 @@ compare() {
     sed 's/ (rows [0-9 ]*)$//' "$room/printed" | cmp -s - "$room/wanted" || fail "$sample from $2 on: another page than the join's rows"
 }
 
+# TABLES ROWS: so many tables of one attribute, each with so many rows, up to 255, all of one value
+tables() {
+    for table in $(seq "$1"); do
+        printf 'TB\001\000\000\000%b\000\000\000' "$(printf '\\%04o' "$2")"
+        head -c $((4 * $2)) /dev/zero
+    done
+}
+
 # the sample file, from its first result on and from a later one, and past its last
 sample=crates/pigrozd/stdin
 "$view_page" $sample >"$room/printed" || fail "the sample file is not shown"
@@ -58,10 +67,13 @@ for sample in crates/samples/data/*; do
         compared=$((compared + 1))
         ;;
     'refused 11')
-        if [ "$detail" = 4294967295 ]; then
-            shown 1 'refused 11 4294967295' "$room/file"
+        if [ "$detail" = 18446744073709551615 ]; then
+            shown 1 'refused 11 18446744073709551615' "$room/file"
         else
-            [ "$("$view_page" "$room/file" $((detail - 1)) | head -n 1)" = "results $detail" ] || fail "$sample: another number of results"
+            # (expr, since the shell counts up to 2^63 - 1)
+            "$view_page" "$room/file" "$(expr "$detail" - 1)" >"$room/printed" || fail "$sample: no last result"
+            [ "$(head -n 1 "$room/printed")" = "results $detail" ] || fail "$sample: another number of results"
+            [ "$(wc -l <"$room/printed")" -eq 2 ] || fail "$sample: another last page"
             shown 1 "refused 16 $detail" "$room/file" "$detail"
         fi
         ;;
@@ -76,13 +88,7 @@ done
 [ "$refused" -gt 50 ] || fail "only $refused samples were refused"
 
 # two tables of 200 rows with one value: 40,000 results, from 4,000 on, and the last ten
-{
-    for table in 0 1; do
-        printf 'TB\001\000\000\000\310\000\000\000'
-        head -c 800 /dev/zero
-    done
-    printf 'PL\003\377\000\001'
-} >"$room/large"
+{ tables 2 200; printf 'PL\003\377\000\001'; } >"$room/large"
 "$view_page" "$room/large" 4000 >"$room/printed" || fail 'the large file is not shown'
 [ "$(wc -l <"$room/printed")" -eq 41 ] || fail 'the large file has another number of lines'
 [ "$(sed -n '1p; 2p; $p' "$room/printed" | tr '\n' ' ')" = 'results 40000 4000: 0 (rows 20 0) 4039: 0 (rows 20 39) ' ] ||
@@ -90,6 +96,28 @@ done
 "$view_page" "$room/large" 39990 >"$room/printed" || fail 'the large file has no last page'
 [ "$(sed -n '2p; $p' "$room/printed" | tr '\n' ' ')" = '39990: 0 (rows 199 190) 39999: 0 (rows 199 199) ' ] ||
     fail 'the large file has another last page'
+
+# 2^32 results, the last ten. The plan that is found names the last table first
+{ tables 8 16; printf 'PL\000'; } >"$room/many"
+"$view_page" "$room/many" 4294967286 >"$room/printed" || fail '2^32 results are not shown'
+[ "$(sed -n '1p; 2p; $p' "$room/printed" | tr '\n' ' ')" = "results 4294967296 \
+4294967286: 0 (rows 6 15 15 15 15 15 15 15) 4294967295: 0 (rows 15 15 15 15 15 15 15 15) " ] ||
+    fail '2^32 results have another last page'
+shown 1 'refused 16 4294967296' "$room/many" 4294967296
+
+# 15 * 2^60 results: numbers above 2^63, and the last one. Then 2^64, which have no numbers
+{ tables 15 16; tables 1 15; printf 'PL\000'; } >"$room/many"
+"$view_page" "$room/many" 12345678901234567890 >"$room/printed" || fail '15 * 2^60 results are not shown'
+[ "$(sed -n '1p; 2p' "$room/printed" | tr '\n' ' ')" = "results 17293822569102704640 \
+12345678901234567890: 0 (rows 2 13 10 0 15 1 11 14 12 8 9 10 4 5 11 10) " ] ||
+    fail '15 * 2^60 results have another page'
+[ "$(wc -l <"$room/printed")" -eq 41 ] || fail '15 * 2^60 results have a page of another length'
+shown 0 'results 17293822569102704640
+17293822569102704639: 0 (rows 15 15 15 15 15 15 15 15 15 15 15 15 15 15 15 14)' "$room/many" 17293822569102704639
+shown 1 'refused 16 17293822569102704640' "$room/many" 18446744073709551615
+{ tables 16 16; printf 'PL\000'; } >"$room/many"
+shown 1 'refused 11 18446744073709551615' "$room/many"
+shown 1 'refused 11 18446744073709551615' "$room/many" 18446744073709551615
 
 # what is no number, and a file that is not there
 for number in '' -1 +1 ' 1' 0x1 1.0 1e3 18446744073709551616; do

@@ -10,8 +10,8 @@ use crate::library::{self, Answer, NumberAnswer, ResultAnswer};
 use crate::sqlite::{Paging, Query};
 use crate::{check_alone, per_file, print_heads, print_row, ratio, slow, times, twin, Buffers, Column, OUTPUT_WORDS};
 
-/// So many results, or more, are not numbered.
-const HOLD_LIMIT: u64 = 4_294_967_295;
+/// So many results, or more, are counted as so many, and are not numbered.
+pub const HOLD_LIMIT: u64 = u64::MAX;
 
 /// The results of a page.
 const PAGE: u64 = 40;
@@ -32,7 +32,7 @@ pub fn grouped(answer: &Answer) -> bool {
 }
 
 /// The number of results, by the answer of a join that grouped the rows.
-fn total(answer: &Answer) -> u64 {
+pub fn total(answer: &Answer) -> u64 {
     answer.rows.max(answer.detail)
 }
 
@@ -454,7 +454,7 @@ impl Times {
 
 const TIME_COLUMNS: [Column; 13] = [
     ("file x rows in each table", 29),
-    ("results", 10),
+    ("results", 19),
     ("place", 6),
     ("grouping, us", 12),
     ("join", 5),
@@ -559,7 +559,8 @@ fn print_counts(case: &Case, counts: &[u64; CALLS]) {
 mod tests {
     use super::*;
     use crate::inputs::{self, table as of_columns};
-    use crate::plans::{join, Plan};
+    use crate::plans::{join, left_deep, Plan};
+    use crate::small;
 
     fn joined(input: &Input) -> (Answer, Vec<u32>) {
         let mut b = Buffers::new(input);
@@ -577,13 +578,24 @@ mod tests {
         assert_eq!(check_small(&input.file, input, 4, (&answer, &output)), 4);
     }
 
-    /// 2,048 rows three times, with nothing shared, are more results than are numbered.
+    /// 4,096 rows six times, with nothing shared, are more results than are numbered.
     #[test]
     fn too_many_results() {
-        let input = Input::without_plan((0..3).map(|a| of_columns(vec![(a, vec![0; 2048])])).collect());
+        let input = Input::without_plan((0..6).map(|a| of_columns(vec![(a, vec![0; 4096])])).collect());
         let (answer, output) = joined(&input);
         assert_eq!((answer.number, answer.detail), (11, HOLD_LIMIT));
         assert_eq!(check_small(&input.file, &input, 4, (&answer, &output)), 0);
+    }
+
+    /// One result less than the limit is numbered; the limit itself is not.
+    #[test]
+    fn at_the_limit() {
+        for (less, checked) in [(1, 0), (2, 4)] {
+            let input = Input::new(small::short_of_64_bits(less), left_deep(16));
+            let (answer, output) = joined(&input);
+            assert_eq!((answer.number, answer.detail), (11, HOLD_LIMIT - (less as u64 - 1)));
+            assert_eq!(check_small(&input.file, &input, 4, (&answer, &output)), checked);
+        }
     }
 
     /// A value that differs from the join's is noticed.

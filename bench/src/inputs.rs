@@ -7,6 +7,9 @@ use crate::plans::{join, left_deep, right_deep, Plan, Plan::Table as Leaf};
 /// What stands for a reading that was never taken. It matches nothing, not even itself.
 pub const NOT_RECORDED: u32 = u32::MAX;
 
+/// The scratch needed has so many words for each row of the file, beside those of the joins.
+pub const ROW_WORDS: usize = 10;
+
 /// Columns by attribute, attributes rising.
 #[derive(Clone)]
 pub struct Table {
@@ -77,7 +80,7 @@ impl Input {
     fn following(followed: Plan, tables: Vec<Table>, plan: Option<Plan>) -> Input {
         let file = bytes(&tables, &plan.as_ref().map_or(Vec::new(), Plan::code));
         let all_rows: usize = tables.iter().map(Table::rows).sum();
-        let scratch_words = 8 * all_rows + followed.left_rows(&tables);
+        let scratch_words = ROW_WORDS * all_rows + followed.left_rows(&tables);
         let width = tables.iter().fold(0, |m, t| m | t.mask()).count_ones() as usize;
         Input { tables, plan, followed, file, scratch_words, width }
     }
@@ -590,5 +593,8 @@ pub fn by_number() -> Vec<Case> {
     add("long spine, star of 16", &[4096], |n, seed| long_spine(16, n, seed));
     add("fan-out star of 3", &[4096], |n, seed| fan_out_star(3, 16, n, seed));
     add("fan-out star of 4", &[4096], |n, seed| fan_out_star(4, 64, n, seed));
+    // More results than a word can count.
+    add("fan-out star of 5", &[4096], |n, seed| fan_out_star(5, 64, n, seed));
+    add("nothing shared by 5", &[4096], |n, seed| Input::new(nothing_shared(5, n, seed).tables, left_deep(5)));
     all
 }

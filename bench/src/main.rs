@@ -29,6 +29,7 @@ use std::hint::black_box;
 use std::process::{Command, Stdio};
 use std::time::{Duration, Instant};
 
+use access::HOLD_LIMIT;
 use inputs::{choices, Case, Input, Table};
 use library::{Answer, SlowAnswer};
 use plans::Plan;
@@ -46,6 +47,13 @@ const SMALL_CHOICES: u64 = 100_000;
 /// The most results of a small file that are reached by number.
 const SMALL_RESULTS: usize = 32;
 
+/// The words of scratch for a small file: too few for some.
+const SMALL_SCRATCH: usize = 600;
+
+/// How many files with very many results are tried, and the words of scratch for one: enough for all.
+const MANY_FILES: u64 = 2_000;
+const MANY_SCRATCH: usize = 32_000;
+
 /// Instructions for one file: of the library, the twin and the slow engine.
 type Counts = [u64; 3];
 
@@ -53,7 +61,8 @@ type Counts = [u64; 3];
 const CONTESTANTS: [&str; 3] = ["pigrozd_join", "twin_join", "*_slow_join"];
 const BY_NUMBER: [&str; 3] = ["pigrozd_join", "*_result_at", "?igrozd_number_of"];
 
-/// Buffers for one file. They are lent as the run before left them: the join zeroes its scratch itself, before and after.
+/// Buffers for one file. They are lent as the run before left them: the join zeroes its scratch itself, what it needs before and all
+/// of it after.
 struct Buffers {
     scratch: Vec<u32>,
     output: Vec<u32>,
@@ -134,7 +143,7 @@ fn limit(file: &[u8], values: &[u32], output: &mut [u32]) -> u32 {
 fn check_damaged(sample: &Input) {
     let file = &sample.file;
     let agree = |bytes: &[u8]| {
-        let (mut s, mut o) = ([7; 96], [7; 16]);
+        let (mut s, mut o) = ([7; 118], [7; 16]);
         let (mut t, mut p, mut q) = (s, o, o);
         let answer = library::join(bytes, &mut s, &mut o);
         assert_eq!((answer, s, o), (twin::twin_join(bytes, &mut t, &mut p), t, p), "{bytes:?}");
@@ -158,7 +167,7 @@ fn check_plans() {
     for seed in 0..SMALL_FILES {
         let (tables, plan) = small::tables_and_plan(1 + seed as usize % 16, seed);
         mended += u64::from(plan.mended(&tables).is_some_and(|m| m != plan));
-        small.push(check_small(tables, Some(plan)));
+        small.push(check_small(tables, Some(plan), SMALL_SCRATCH));
         refused += u64::from(small[seed as usize].answer.number == 9);
     }
     println!("{SMALL_FILES} small files: library and twin agree; {mended} plans mended, {refused} refused by answer 9");
@@ -169,13 +178,39 @@ fn check_plans() {
 /// the library does.
 fn check_found() {
     let tables = |seed| small::tables_alone(1 + seed as usize % 16, seed);
-    let small: Vec<Small> = (0..SMALL_FILES).map(|seed| check_small(tables(seed), None)).collect();
+    let small: Vec<Small> = (0..SMALL_FILES).map(|seed| check_small(tables(seed), None, SMALL_SCRATCH)).collect();
     let refused = small.iter().filter(|s| s.answer.number == 14).count();
     let found = small.len() - refused;
     println!(
         "{SMALL_FILES} small files without a plan: library and twin agree; {found} plans found, {refused} refused by answer 14"
     );
     print_agreed(&small);
+}
+
+/// The twin must count as the library does where totals pass 32 bits, up to the limit and at it.
+fn check_many() {
+    let drawn = (0..MANY_FILES).map(|seed| small::many_results(8 + seed as usize % 9, seed));
+    let short = (1..=16).map(|less| (small::short_of_64_bits(less), plans::left_deep(16)));
+    let small: Vec<Small> = drawn.chain(short).map(|(tables, plan)| check_counted(tables, plan)).collect();
+    let reaching = |n: u64| small.iter().filter(|s| access::total(&s.answer) >= n).count();
+    println!(
+        "{} files with very many results: library and twin agree; {} have {} or more, {} of them {HOLD_LIMIT} or more",
+        small.len(),
+        reaching(1 << 32),
+        1u64 << 32,
+        reaching(HOLD_LIMIT)
+    );
+    print_agreed(&small);
+}
+
+/// Where results can be counted from the values, library and twin must give this number, or the limit if that is less.
+fn check_counted(tables: Vec<Table>, plan: Plan) -> Small {
+    let count = small::counted(&tables);
+    let small = check_small(tables, Some(plan), MANY_SCRATCH);
+    assert!(access::grouped(&small.answer), "{:?}", small.answer);
+    let total = u128::from(access::total(&small.answer));
+    assert!(count.is_none_or(|n| total == n.min(HOLD_LIMIT.into())), "{:?} for {count:?} results", small.answer);
+    small
 }
 
 /// What was compared of a small file: the answer of library and twin, the slow engine's where it was tried, and how many results were
@@ -192,12 +227,12 @@ fn print_agreed(small: &[Small]) {
 }
 
 /// Library and twin must agree in the answer and in the buffers, the slow engine and results by number with both.
-fn check_small(tables: Vec<Table>, plan: Option<Plan>) -> Small {
+fn check_small(tables: Vec<Table>, plan: Option<Plan>, scratch_words: usize) -> Small {
     let file = inputs::bytes(&tables, &plan.as_ref().map_or(Vec::new(), Plan::code));
-    let (mut s, mut o) = ([7; 500], [7; 2000]);
-    let (mut t, mut p, mut q) = (s, o, o);
+    let (mut s, mut o) = (vec![7; scratch_words], [7; 2000]);
+    let (mut t, mut p, mut q) = (s.clone(), o, o);
     let answer = library::join(&file, &mut s, &mut o);
-    assert_eq!((answer, s, o), (twin::twin_join(&file, &mut t, &mut p), t, p), "{file:?}");
+    assert_eq!((answer, &s, o), (twin::twin_join(&file, &mut t, &mut p), &t, p), "{file:?}");
     let count = choices(&tables);
     let tried = count <= SMALL_CHOICES || slow::too_many(count);
     let slow = if tried { slow::check(&file, &file, count, (&answer, &o), &mut q) } else { None };
@@ -226,6 +261,7 @@ fn check_all<'a>(cases: impl Iterator<Item = &'a Case>) {
             inputs::samples().iter().for_each(check_damaged);
             check_plans();
             check_found();
+            check_many();
         }
         let mut b = Buffers::new(&input);
         let a = library::join(&input.file, &mut b.scratch, &mut b.output);

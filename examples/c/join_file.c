@@ -1,7 +1,7 @@
 /* Joins the file on standard input, of any size that the rules allow, and prints what the proved program prints. Both buffers
- * are as large as the join says: it is asked without any first. Ends with 0 joined, 1 refused, 2 where the file could not be
- * read, memory not be had or the answer not be written. A value that was not recorded is printed as the word that output holds
- * for it, PIGROZD_NOT_RECORDED: 4294967295.
+ * are as large as the join says: it is asked without any first. Where no output fits the results, the line refused 11 says how
+ * many there are. Ends with 0 joined, 1 refused, 2 where the file could not be read, memory not be had or the answer not be
+ * written. A value that was not recorded is printed as the word that output holds for it, PIGROZD_NOT_RECORDED: 4294967295.
  *
  *     cc -Iinclude -o join_file examples/c/join_file.c target/lib/libpigrozd.a
  *     ./join_file < crates/pigrozd/stdin
@@ -72,6 +72,7 @@ int main(void)
             return fail("no memory for the scratch");
         answer = pigrozd_join(file, length, scratch, scratch_words, output, output_words);
     }
+    /* Divided here, and not the number of results multiplied: that has up to 64 bits, and the product could pass them. */
     if (answer.number == PIGROZD_OUTPUT_SHORT && answer.detail <= PIGROZD_MOST_OUTPUT_WORDS / width()) {
         output_words = answer.detail * width();
         output = malloc(4 * output_words);

@@ -19,6 +19,11 @@ join(tables, "(frames (exposures readings))"), and mends it if it is not well-be
 followed. What cannot be joined raises Refused, TypeError or ValueError. join(tables, engine="slow") has the slow
 engine, for acceptance days, go through every choice of rows; it gives the same result, without counts.
 
+    pigrozd.count(tables).results   # 4
+    pigrozd.count(tables).bytes     # 64
+
+Results are counted without being written, so there may be more than join can give.
+
     opened = pigrozd.open_tables(tables)
     len(opened)                     # 4
     opened[2]                       # (11, 2, 9, 29530)
@@ -30,11 +35,12 @@ such row numbers they give the number. docs/PYTHON.md says more; `python3 -m pig
 """
 from .access import ResultRow, ResultSlice, Tables, open_file, open_tables
 from .answers import MEANINGS, NoSuchResult, Refused
-from .joining import join, join_file, make_file
+from .joining import count, count_file, join, join_file, make_file
 from .library import Answer, Engine, LibraryError, NumberAnswer, ResultAnswer, SlowAnswer
 from .library import call, call_number_of, call_result_at, call_slow
 from .messages import InputError
 from .results import Counts, Result
+from .sizes import Size
 from .values import NOT_RECORDED
 
 __version__ = "0.1.0"
@@ -42,6 +48,8 @@ __all__ = [
     "join",
     "join_file",
     "make_file",
+    "count",
+    "count_file",
     "open_tables",
     "open_file",
     "call",
@@ -55,6 +63,7 @@ __all__ = [
     "Engine",
     "Counts",
     "Result",
+    "Size",
     "ResultRow",
     "ResultSlice",
     "Tables",

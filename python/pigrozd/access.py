@@ -2,6 +2,7 @@
 the rows that it is made of (request U6)."""
 import collections.abc
 import operator
+import sys
 import threading
 from dataclasses import dataclass
 from typing import Any, Dict, Iterator, List, Mapping, Optional, Sequence, Tuple, Union, overload
@@ -16,6 +17,7 @@ from .limits import HIGHEST_COUNT
 from .messages import InputError, count, listed
 from .names import Names
 from .results import Key
+from .sizes import Size
 from .tables import GivenTables
 from .values import NOT_RECORDED, values_of
 
@@ -57,8 +59,10 @@ class Tables(Sequence[RowValues]):
     Each time a result is asked for, the library reads and groups the tables once more, as it does for a join before it
     writes. So `join` is the better way to all results. `in`, index() and count() go through them one by one.
 
-    There must be fewer than 4,294,967,295 results; else opening is refused with 11. A number that no result has raises
-    NoSuchResult, which is an IndexError and a Refused with the number 16.
+    `size` tells how many results there are and how many bytes they take. There must be fewer than
+    18,446,744,073,709,551,615 results; else opening is refused with 11. len() goes only as far as Python's does:
+    above 9,223,372,036,854,775,807 results it raises OverflowError. A number that no result has raises NoSuchResult,
+    which is an IndexError and a Refused with the number 16.
 
     An object lends its own scratch to the library. Threads that use one object wait for each other; each that is to
     work beside others opens the tables for itself.
@@ -73,7 +77,8 @@ class Tables(Sequence[RowValues]):
         attributes = plans.width(self._file.tables)
         self.names: Tuple[Key, ...] = tuple(keys[a] if keys else a for a in attributes)
         self.table_names: Tuple[Key, ...] = tuple(called.tables.get(t, t) for t in range(len(self._file.tables)))
-        self._total = self._counted()
+        self.size = Size(self._counted(), len(attributes))
+        self._total = self.size.results
         self.plan, self.plan_bytes, self.mended, self.found = followed(self._file, called)
 
     def _counted(self) -> int:
@@ -95,7 +100,8 @@ class Tables(Sequence[RowValues]):
     def _refusal(self, answer: AnyAnswer) -> Refused:
         """What the library refuses whichever result is asked for."""
         if answer.number == TOO_MANY_RESULTS:
-            return Refused(answer.number, answer.detail, too_many(self._file, self._called))
+            size = Size(answer.detail, len(self.names))
+            return Refused(answer.number, answer.detail, too_many(self._file, self._called), size=size)
         return refusal(answer, self._file, self._called)
 
     # ---- by number
@@ -114,7 +120,10 @@ class Tables(Sequence[RowValues]):
         return ResultRow(number, tuple(values_of(words)), answer.rows[: len(self.table_names)])
 
     def __len__(self) -> int:
-        return self._total
+        return length(self._total)
+
+    def __bool__(self) -> bool:
+        return self._total > 0
 
     @overload
     def __getitem__(self, index: int) -> RowValues: ...
@@ -132,6 +141,9 @@ class Tables(Sequence[RowValues]):
 
     def __iter__(self) -> Iterator[RowValues]:
         return iter(self[:])
+
+    def __reversed__(self) -> Iterator[RowValues]:
+        return iter(self[::-1])
 
     def pages(self, size: int = PAGE) -> "Iterator[ResultSlice]":
         """The results in order, so many at a time: ResultSlices, of which the last may be shorter."""
@@ -187,17 +199,22 @@ class Tables(Sequence[RowValues]):
 
 class ResultSlice(Sequence[RowValues]):
     """Some of the results of opened tables: those with the `numbers`, a range. They are read one by one, each when it
-    is asked for; a slice of a slice reads nothing either."""
+    is asked for; a slice of a slice reads nothing either. `size` and len() are as those of opened tables."""
 
     def __init__(self, tables: Tables, numbers: range) -> None:
         self.tables, self.numbers = tables, numbers
+        results = (numbers[-1] - numbers[0]) // numbers.step + 1 if numbers else 0  # len() goes less far
+        self.size = Size(results, len(tables.names))
 
     def results(self) -> Iterator[ResultRow]:
         """The results with their numbers and rows, one after the other."""
         return map(self.tables.result, self.numbers)
 
     def __len__(self) -> int:
-        return len(self.numbers)
+        return length(self.size.results)
+
+    def __bool__(self) -> bool:
+        return self.size.results > 0
 
     @overload
     def __getitem__(self, index: int) -> RowValues: ...
@@ -213,8 +230,20 @@ class ResultSlice(Sequence[RowValues]):
     def __iter__(self) -> Iterator[RowValues]:
         return (result.values for result in self.results())
 
+    def __reversed__(self) -> Iterator[RowValues]:
+        return iter(self[::-1])
+
     def __repr__(self) -> str:
-        return "<ResultSlice: {:,} of {}, {}>".format(len(self), count(len(self.tables), "result"), self.numbers)
+        there = count(self.tables.size.results, "result")
+        return "<ResultSlice: {:,} of {}, {}>".format(self.size.results, there, self.numbers)
+
+
+def length(results: int) -> int:
+    """A number of results as len() gives it. OverflowError if it is more than Python takes of any len()."""
+    if results > sys.maxsize:
+        told = "there are {:,} results, and len() goes up to {:,}; size.results has their number"
+        raise OverflowError(told.format(results, sys.maxsize))
+    return results
 
 
 def row_numbers(rows: Any) -> List[int]:

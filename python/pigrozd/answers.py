@@ -1,6 +1,8 @@
 """The answers of document 01: what each number means and what its detail is. The package has one table of them."""
 from typing import Dict, NamedTuple, Optional
 
+from .sizes import Size
+
 
 class Meaning(NamedTuple):
     """What an answer's number means, and what its detail is. docs/answers has a page for each number."""
@@ -42,11 +44,14 @@ NO_SUCH_RESULT, NOT_A_RESULT, ROW_SHORT = 16, 17, 18  # where one result is aske
 class Refused(Exception):
     """A refusal: the answer's number and detail, and why in the words of who gave the tables.
 
-    `table` is the number of the table that is at fault where the number is 3, 4 or 5, else None."""
+    `table` is the number of the table that is at fault where the number is 3, 4 or 5, else None. `size` tells where
+    the number is 11 how many results there are and how many bytes they take, else it is None."""
 
-    def __init__(self, number: int, detail: int, why: str = "", table: Optional[int] = None) -> None:
-        super().__init__(number, detail, why, table)
-        self.number, self.detail, self.why, self.table = number, detail, why, table
+    def __init__(
+        self, number: int, detail: int, why: str = "", table: Optional[int] = None, size: Optional[Size] = None
+    ) -> None:
+        super().__init__(number, detail, why, table, size)
+        self.number, self.detail, self.why, self.table, self.size = number, detail, why, table, size
 
     @property
     def meaning(self) -> str:

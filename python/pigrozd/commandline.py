@@ -18,9 +18,9 @@ from .streams import PROGRAM, tell, write_out
 from .values import LARGEST
 
 ABOUT = """Joins tables. `pigrozd join a.csv b.csv c.csv` joins CSV files by a plan that is found for them, or by the
-one that --plan gives, and `pigrozd view` shows results of such a join a page at a time; the other commands are for
-packed files, which are tables in one file, with a plan or without one, as document 01 says, and for plans. `pigrozd
-COMMAND --help` says more of each, docs/TOOLS.md has examples."""
+one that --plan gives, `pigrozd view` shows results of such a join a page at a time, and `pigrozd count` says how many
+there are; the other commands are for packed files, which are tables in one file, with a plan or without one, as
+document 01 says, and for plans. `pigrozd COMMAND --help` says more of each, docs/TOOLS.md has examples."""
 
 
 def main(arguments: Optional[Sequence[str]] = None) -> int:
@@ -89,7 +89,7 @@ def parser_of_all() -> argparse.ArgumentParser:
     parser = Parser(prog=PROGRAM, description=ABOUT, allow_abbrev=False)
     parser.add_argument("--version", action=ShowVersion, nargs=0, help="show the version and end")
     subparsers = parser.add_subparsers(title="commands", metavar="COMMAND", dest="command", required=True)
-    for add in (add_join, add_view, add_pack, add_unpack, add_rows, add_dump, add_plan):
+    for add in (add_join, add_view, add_count, add_pack, add_unpack, add_rows, add_dump, add_plan):
         add(subparsers)
     return parser
 
@@ -173,6 +173,22 @@ def add_view(subparsers: Any) -> None:
     p.add_argument(
         "--row-numbers", action="store_true", help="show the row numbers that a result is made of beside its values"
     )
+    p.add_argument("--plan", help="join by this plan, as `pigrozd join --plan` does")
+    add_csv_options(p)
+
+
+def add_count(subparsers: Any) -> None:
+    """pigrozd count"""
+    p = add_command(
+        subparsers,
+        commands.count,
+        "Prints how many results a join has, and how many bytes they take as the library writes them, 4 for each "
+        "value. No result is written, so there may be more than `pigrozd join` can write. Where there are {:,} or "
+        "more it prints that number, with `at least` before it. Files are given as to `pigrozd join`.".format(
+            HIGHEST_COUNT
+        ),
+    )
+    p.add_argument("files", metavar="FILE", nargs="+", help="a packed file; or CSV files")
     p.add_argument("--plan", help="join by this plan, as `pigrozd join --plan` does")
     add_csv_options(p)
 

@@ -5,14 +5,15 @@ import re
 import shlex
 from typing import List, Optional, Sequence, Tuple, Union
 
-from . import csvfiles, dumps, fileformat, files, plans, screens, viewing
+from . import csvfiles, dumps, fileformat, files, messages, plans, screens, viewing
 from .access import PAGE, Tables
-from .answers import LAST_OF_PLANS, LAST_OF_RECORDS, MEANINGS, NO_SUCH_RESULT, NONE_FOUND, TOO_MANY_CHOICES, Refused
+from .answers import LAST_OF_PLANS, LAST_OF_RECORDS, MEANINGS, NO_SUCH_RESULT, NONE_FOUND
+from .answers import TOO_MANY_CHOICES, TOO_MANY_RESULTS, Refused
 from .drawing import Drawing, DrawingOfStuck, drawing_without_plan
-from .joining import join_bytes
+from .joining import count_bytes, join_bytes
 from .library import engine_named
-from .limits import PROGRAM_BYTES, PROGRAM_WORDS
-from .messages import InputError, count
+from .limits import MOST_OUTPUT, PROGRAM_BYTES, PROGRAM_WORDS
+from .messages import InputError
 from .names import NAMES_ENDING, Names, digest, digest_in, fault_of_table_name, load_beside, names_beside, names_text
 from .streams import standard_input, tell, write_out
 from .values import values_of, word_of_text
@@ -54,6 +55,15 @@ def refused_file(path: str, refused: Refused, plan: Optional[str] = None) -> int
     elif refused.number == NONE_FOUND:
         hint = "; %s shows it" % command_text("plan", operand(path))
     tell("%s: %s%s" % (path, refused, hint))
+    return REFUSED
+
+
+def refused_inputs(a: Arguments, refused: Refused) -> int:
+    """Tells that what the arguments name is refused, and which command shows why; the status."""
+    if is_packed(a.files):
+        return refused_file(a.files[0], refused, a.plan)
+    hint = "; %s shows it" % command_for_tables(a.files) if refused.number == NONE_FOUND else ""
+    tell("%s%s" % (refused, hint))
     return REFUSED
 
 
@@ -149,11 +159,7 @@ def view(a: Arguments) -> int:
     try:
         return view_results(a)
     except Refused as refused:
-        if is_packed(a.files):
-            return refused_file(a.files[0], refused, a.plan)
-        hint = "; %s shows it" % command_for_tables(a.files) if refused.number == NONE_FOUND else ""
-        tell("%s%s" % (refused, hint))
-        return REFUSED
+        return refused_inputs(a, refused)
 
 
 def view_results(a: Arguments) -> int:
@@ -180,6 +186,18 @@ def view_results(a: Arguments) -> int:
     return DONE
 
 
+# ---- count
+def count(a: Arguments) -> int:
+    """Counts the results of a join and the bytes that they take, without writing them."""
+    try:
+        size = count_bytes(*load_inputs(a))
+    except Refused as refused:
+        return refused_inputs(a, refused)
+    least = "at least " if size.at_least else ""
+    write_out("results %s%d\nbytes %s%d\n" % (least, size.results, least, size.bytes))
+    return DONE
+
+
 # ---- pack
 def pack(a: Arguments) -> int:
     """Packs CSV files into a file of document 01, with its names beside it."""
@@ -196,8 +214,9 @@ def pack(a: Arguments) -> int:
         tell("%s; nothing is written (--anyway writes it, %s draws it)" % (file.fault, draws))
         return REFUSED
     files.save([(a.out, data), (named, names_text(names, data).encode("utf-8"))])
-    sizes = [count(len(data), "byte"), count(len(file.tables), "table"), count(file.row_count(), "row")]
-    write_out("%s: %s%s\n" % (a.out, ", ".join(sizes), ", no plan" if file.found else ""))
+    sizes = {"byte": len(data), "table": len(file.tables), "row": file.row_count()}
+    told = ", ".join(messages.count(number, thing) for thing, number in sizes.items())
+    write_out("%s: %s%s\n" % (a.out, told, ", no plan" if file.found else ""))
     note = program_refuses(file)
     if note:
         tell("note: " + note)
@@ -278,7 +297,7 @@ def rows(a: Arguments) -> int:
     try:
         found = printed_rows(files.load(a.print) if a.print else standard_input(), where)
     except Refused as refused:
-        tell("%s: %s; %s" % (where, refused, what_helps(a.file, refused)))
+        tell("%s: %s; %s" % (where, refused, what_helps(a.file, refused, len(plans.width(file.tables)))))
         return REFUSED
     if file.fault:
         raise InputError("%s: %s; so it is not the file of this print" % (a.file, file.fault))
@@ -287,15 +306,15 @@ def rows(a: Arguments) -> int:
         if len(row) != len(attributes):
             raise InputError(
                 "%s, line %d: %s, but a result of %s has %d"
-                % (where, at, count(len(row), "value"), a.file, len(attributes))
+                % (where, at, messages.count(len(row), "value"), a.file, len(attributes))
             )
     columns = [(n, values_of(row[place] for row in found)) for place, n in enumerate(attributes)]
     write_out(csvfiles.columns_text(columns, names))
     return DONE
 
 
-def what_helps(path: str, refused: Refused) -> str:
-    """What to do about a refusal that the program printed for a file."""
+def what_helps(path: str, refused: Refused, values: int) -> str:
+    """What to do about a refusal that the program printed for a file whose results have so many values."""
     if refused.number <= LAST_OF_PLANS:
         answer = (str(refused.number), str(refused.detail))
         return "%s shows the place" % command_text("dump", operand(path), "--answer", *answer)
@@ -307,6 +326,8 @@ def what_helps(path: str, refused: Refused) -> str:
         return "it is the slow engine's answer, and this program never gives it"
     if refused.number >= NO_SUCH_RESULT:
         return "it is an answer of calls for one result, and this program never gives it"
+    if refused.number == TOO_MANY_RESULTS and refused.detail * values > MOST_OUTPUT:
+        return "no output fits them, and %s says how many bytes they take" % command_text("count", operand(path))
     return "%s has more room" % command_text("join", operand(path))
 
 
@@ -331,7 +352,7 @@ def printed_rows(text: bytes, where: str) -> List[List[int]]:
     if len(tail) != 1 or not re.fullmatch("steps( [0-9]+){4}", tail[0]):
         raise InputError(
             "%s: %s and then steps expected behind line 1, found %s"
-            % (where, count(out, "row"), count(len(lines) - 1, "line"))
+            % (where, messages.count(out, "row"), messages.count(len(lines) - 1, "line"))
         )
     return [list(map(int, line.split())) for line in body]
 

@@ -1,18 +1,18 @@
-"""Joins of tables and of files."""
+"""Joins of tables and of files, and how many results they have."""
 import os
 import warnings
 from typing import Dict, Optional, Tuple, Union
 
 from . import plans
-from .answers import LAST_OF_PLANS, NONE_FOUND, TOO_MANY_CHOICES, Refused
+from .answers import LAST_OF_PLANS, NONE_FOUND, TOO_MANY_CHOICES, TOO_MANY_RESULTS, Refused
 from .fileformat import File, plan_record, read
 from .files import load
 from .library import Answer, BytesLike, Engine, NumberAnswer, ResultAnswer, SlowAnswer
-from .library import bytes_of, call_slow_with_enough, call_with_enough, engine_named
-from .limits import HIGHEST_COUNT, MOST_CHOICES, MOST_OUTPUT
-from .messages import count
+from .library import bytes_of, call_slow_with_enough, call_with_enough, call_with_scratch, engine_named, zeros
+from .limits import MOST_CHOICES, MOST_OUTPUT
 from .names import Names, names_beside
 from .results import Key, Result
+from .sizes import Size
 from .tables import GivenTables, records_of
 from .values import Values, column_of_words
 
@@ -56,6 +56,19 @@ def join_file(file: GivenFile, engine: Engine = "join") -> Result:
     return join_bytes(*loaded(file), engine)
 
 
+def count(tables: GivenTables, plan: Optional[plans.GivenPlan] = None) -> Size:
+    """How many results the join of these tables has, and how many bytes they take: a Size, or Refused.
+
+    Tables and plan are given as to `join`. The results are counted from the groups, and none is written. So there may
+    be more of them than `join` can give: their number is exact below 18,446,744,073,709,551,615."""
+    return count_bytes(*packed(tables, plan)[:2])
+
+
+def count_file(file: GivenFile) -> Size:
+    """How many results the join of a file has, in the same way: a Size, or Refused. `file` is its path, or bytes."""
+    return count_bytes(*loaded(file)[:2])
+
+
 def loaded(file: GivenFile) -> Tuple[bytes, Names, Optional[Dict[int, Key]]]:
     """The bytes of a file, given by its path or as bytes; its names, and its attributes by number, or None if they
     have no names. A warning is about the line that called the caller."""
@@ -97,6 +110,15 @@ def join_bytes(
     return Result(columns, answer.rows, *counts, *followed(file, names), engine)
 
 
+def count_bytes(data: bytes, names: Names) -> Size:
+    """The size of the result of a file's bytes, or Refused in these names."""
+    answer, _ = call_with_scratch(data, zeros(0))
+    file = read(data, names)
+    if answer.number not in (0, TOO_MANY_RESULTS):
+        raise refusal(answer, file, names)
+    return Size(answer.detail, len(plans.width(file.tables)))  # after 0 there are no results, and the detail is 0
+
+
 def followed(file: File, names: Names) -> Tuple[str, bytes, bool, bool]:
     """The plan that the join of a file followed, as text and as bytes; whether the file's own was mended, so that this
     is another one; and whether the file has none, so that it was found. Text and bytes are empty if the reader refuses
@@ -114,28 +136,22 @@ def refusal(answer: AnyAnswer, file: File, names: Names) -> Refused:
     if number <= LAST_OF_PLANS or number == NONE_FOUND:
         fault = file.fault
         return fault if fault and (fault.number, fault.detail) == (number, detail) else Refused(number, detail)
-    if number == 11:
-        return Refused(number, detail, too_many(detail, file, names))
+    if number == TOO_MANY_RESULTS:
+        size = Size(detail, len(plans.width(file.tables)))
+        return Refused(number, detail, too_many(size) + every_pair(file, names), size=size)
     if number == TOO_MANY_CHOICES:
         return Refused(number, detail, too_many_choices(file))
     return Refused(number, detail)
 
 
-def too_many(results: int, file: File, names: Names) -> str:
-    """How many results there are and how many fit; and which joins match every pair, as these make many."""
-    values = len(plans.width(file.tables))
-    why = "there are {}{:,} results of {}, and the longest output ({:,} words) fits {:,}".format(
-        "at least " if results == HIGHEST_COUNT else "",
-        results,
-        count(values, "value"),
-        MOST_OUTPUT,
-        MOST_OUTPUT // values,
-    )
-    return why + every_pair(file, names)
+def too_many(size: Size) -> str:
+    """How many results there are, how many bytes they take, and how many fit."""
+    told = "there are {}, and the longest output ({:,} words) fits {:,}"
+    return told.format(size, MOST_OUTPUT, MOST_OUTPUT // size.values)
 
 
 def every_pair(file: File, names: Names) -> str:
-    """Which joins of the plan that is followed match every pair; nothing if none does."""
+    """Which joins of the plan that is followed match every pair, as these make many results; nothing if none does."""
     joins = plans.joins_of(file.mended.plan) if file.mended else []
     return "".join(
         "; the join of %s is on no attribute, so that every pair matches" % plans.sides_of(join, names)

@@ -248,15 +248,24 @@ def zeros(count: int) -> "array.array[int]":
     return array.array("I", bytes(4 * count))
 
 
-def call_with_enough(data: bytes) -> Tuple[Answer, "array.array[int]"]:
-    """The answer to a file, and the output, with buffers as long as the answers 10 and 11 say that they must be.
+def call_with_scratch(data: bytes, output: "array.array[int]") -> Tuple[Answer, "array.array[int]"]:
+    """The answer to a file with this output, and the scratch, which is as long as the answer 10 says that it must be.
 
-    The answer is 11 only if the results do not fit the longest output that the library uses."""
-    scratch, output = zeros(0), zeros(FIRST_OUTPUT)
+    With an output of no words the answer is 11 if there are any results, and says how many."""
+    scratch = zeros(0)
     answer = call(data, scratch, output)
     if answer.number == 10:
         scratch = zeros(answer.detail)
         answer = call(data, scratch, output)
+    return answer, scratch
+
+
+def call_with_enough(data: bytes) -> Tuple[Answer, "array.array[int]"]:
+    """The answer to a file, and the output, with buffers as long as the answers 10 and 11 say that they must be.
+
+    The answer is 11 only if the results do not fit the longest output that the library uses."""
+    output = zeros(FIRST_OUTPUT)
+    answer, scratch = call_with_scratch(data, output)
     longer = longer_output(data, answer)
     return (call(data, scratch, longer), longer) if longer else (answer, output)
 

@@ -1,4 +1,4 @@
-"""The limits that document 01 sets."""
+"""The limits that document 01 sets, and request U7."""
 
 MOST_TABLES = 16
 MOST_ATTRIBUTES = 8  # of one table
@@ -7,6 +7,8 @@ MOST_ROWS = 4096  # of one table
 MOST_PLAN_BYTES = 255
 MOST_OUTPUT = 1048576  # words of output that the library uses at most
 MOST_CHOICES = 1048576  # choices of one row of each table that the slow engine goes through at most
-HIGHEST_COUNT = 4294967295  # results are counted up to this number, which stands for that many or more
+HIGHEST_COUNT = 18446744073709551615  # results are counted up to this number, which stands for that many or more
+VALUE_BYTES = 4  # of one value
+ROW_WORDS = 10  # words of scratch that each row needs
 PROGRAM_BYTES = 65536  # the longest file that the program target/bin/pigrozd takes
 PROGRAM_WORDS = 16384  # what that program lends, of scratch and of output

@@ -11,7 +11,7 @@ from dataclasses import dataclass
 from typing import Any, Callable, Dict, Iterator, List, Mapping, NamedTuple, Optional, Sequence, Tuple, Union
 
 from .answers import Refused
-from .limits import MOST_PLAN_BYTES, MOST_TABLES
+from .limits import MOST_PLAN_BYTES, MOST_TABLES, ROW_WORDS
 from .names import Names
 from .messages import InputError, count, listed, shortened
 
@@ -327,7 +327,7 @@ def width(tables: Sequence[Shape]) -> List[int]:
 def words_needed(plan: Plan, tables: Sequence[Shape]) -> int:
     """The words of scratch that a join by this plan, which is well-behaved, needs. The tables' rows are known."""
     rows = [table.rows or 0 for table in tables]
-    return 8 * sum(rows) + sum(rows[tables_of(join.left)[0]] for join in joins_of(plan))
+    return ROW_WORDS * sum(rows) + sum(rows[tables_of(join.left)[0]] for join in joins_of(plan))
 
 
 def choices(tables: Sequence[Shape]) -> int:

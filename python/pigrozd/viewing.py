@@ -109,7 +109,7 @@ class Layout:
 
     def __init__(self, tables: Tables, file: File, names: Names) -> None:
         self.names, self.attributes = names, plans.width(file.tables)
-        self.number = column("n", [str(max(len(tables) - 1, 0))])
+        self.number = column("n", [str(max(tables.size.results - 1, 0))])
         self.values = [self.column_of(attribute, file) for attribute in self.attributes]
         rows = [column(names.table(t), [str(max(table.rows - 1, 0))]) for t, table in enumerate(file.tables)]
         self.rows = [Column(BAR, 1, True), *rows]
@@ -182,6 +182,7 @@ class View:
 
     def __init__(self, tables: Tables, layout: Layout, size: int, first: int, with_rows: bool) -> None:
         self.tables, self.layout, self.size = tables, layout, size
+        self.results = tables.size.results
         self.top, self.left_out, self.with_rows = first, 0, with_rows
         self.titles, self.room, self.page = 1, size, size
         self.message = ""
@@ -220,7 +221,7 @@ class View:
     def picture(self, height: int, width: int) -> Picture:
         """What stands on a screen of this many lines and places."""
         self.fit(height)
-        numbers = range(self.top, min(self.top + min(self.page, self.room), len(self.tables)))
+        numbers = range(self.top, min(self.top + min(self.page, self.room), self.results))
         self.read = {n: self.read.get(n) or self.tables.result(n) for n in numbers}
         lines = [line_of(self.layout.cells(result, self.with_rows), self.left_out) for result in self.read.values()]
         header = line_of(self.layout.header(self.with_rows), self.left_out)
@@ -235,15 +236,19 @@ class View:
             return [last_of(self.question.text + self.question.typed, width)]
         if self.message:
             return textwrap.wrap(printable(self.message), max(width, 1))
-        return [cut(self.where(numbers) + (", left and right: more columns" if wide else ""), width)]
+        more = ", left and right: more columns" if wide else ""
+        return [cut(self.where(numbers, width) + ", q: quit, ?: help" + more, width)]
 
-    def where(self, numbers: range) -> str:
-        """Which results are shown, and how to learn more."""
-        shown = count(len(self.tables), "result") if len(self.tables) else "no results"
-        if numbers:
-            ends = "result {:,}" if len(numbers) == 1 else "results {:,} to {:,}"
-            shown = ends.format(numbers[0], numbers[-1]) + " of {:,}".format(len(self.tables))
-        return shown + ", q: quit, ?: help"
+    def where(self, numbers: range, width: int) -> str:
+        """Which results are shown. If the line is too short for both ends, and long enough for one, from which on."""
+        if not numbers:
+            return count(self.results, "result") if self.results else "no results"
+        of = " of {:,}".format(self.results)
+        first = "result {:,}".format(numbers[0]) + of
+        if len(numbers) == 1:
+            return first
+        both = "results {:,} to {:,}".format(numbers[0], numbers[-1]) + of
+        return "from " + first if len(both) > width >= len("from " + first) else both
 
     # ---- what keys do
     def press(self, key: str) -> None:
@@ -270,7 +275,7 @@ class View:
 
     def last_top(self) -> int:
         """The first result of the last page."""
-        return max(len(self.tables) - self.page, 0)
+        return max(self.results - self.page, 0)
 
     def show(self, n: int) -> None:
         """Shows results from this one on."""

@@ -13,7 +13,7 @@ pub struct ResultAnswer {
 pub struct NumberAnswer {
     pub number: u32,
     pub detail: usize,
-    pub n: u32,
+    pub n: u64,
 }
 
 // A refusal of a result.

@@ -50,6 +50,6 @@ pub extern "C" fn pigrozd_number_of(
     pigrozd_number_answer {
         number: answer.number as u64,
         detail: answer.detail as u64,
-        n: answer.n as u64,
+        n: answer.n,
     }
 }

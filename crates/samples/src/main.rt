@@ -1,7 +1,7 @@
 // Joins each sample that the arguments name, in their order, with both engines, and prints its name, the answers, and what the
 // buffers hold afterwards; then results by their numbers, with the way back. A sample is a file of data/: two 4-byte numbers, the words
-// of scratch and of output to lend, and then the
-// file to join. tests/make_samples.py writes the samples, the arguments and the output expected.
+// of scratch and of output to lend, and then the file to join. tests/make_samples.py writes the samples, the arguments and the output
+// expected.
 use capi_access::pigrozd_result_answer;
 use libc::STDOUT_FILENO;
 
@@ -164,10 +164,10 @@ fn show_result(file: &[u8], scratch: &mut [u32], row: &mut [u32], n: u64) -> u64
     }
 }
 
-// Past the last result, and where there are some and not many, the first, the middle and the last one.
+// Past the last result, and where there are some, the first, the middle and the last one.
 fn show_results(file: &[u8], scratch: &mut [u32], row: &mut [u32]) {
     let count = show_result(file, &mut *scratch, &mut *row, 18446744073709551615);
-    if count == 0 || 4096 < count {
+    if count == 0 {
         return;
     }
     show_result(file, &mut *scratch, &mut *row, 0);

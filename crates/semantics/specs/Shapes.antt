@@ -65,9 +65,9 @@ rowsIn ts = sum (λ t. t .rows) ts
 unfoldable pub width : List Table → ℕ
 width ts = length (filter (λ a. any (λ t. hasBit (t .mask) a) ts) attributes)
 
--- "the words needed": that many for each row, and one more for each row of the left plan's leftmost table at each join
+-- "the words needed": that many for each row, by request U7, and one more for each row of the left plan's leftmost table at each join
 abbrev pub wordsPerRow : ℕ
-wordsPerRow = 8
+wordsPerRow = 10
 
 unfoldable pub scratchNeed : List Table → Plan → ℕ
 scratchNeed ts p = wordsPerRow * rowsIn ts + leftRows (shapeOf ts) p

@@ -3,3 +3,4 @@ pub mod Products
 pub mod Parts
 pub mod Arrays
 pub mod SameWords
+pub mod WordPairs

@@ -1,13 +1,24 @@
-// Words of a byte slice, bits of a mask, sums and products held at the limit, words zeroed and compared.
+// Words of a byte slice, bits of a mask, numbers of two words, sums and products held at the limit, words zeroed and compared.
 ghost use mathlib.Core.Path.{_≡_};
-ghost use Prim.Native.Nat.{_+_, _*_, _<_, _≤_};
+ghost use Prim.Native.Nat.{_+_, _<_, _≤_};
 ghost use lib.ListN.{length};
 ghost use Rattle.semantics.specs.Lists.{same};
 ghost use Rattle.semantics.specs.Files.{wordAt, hasBit, onesBelow, arity};
-ghost use Rattle.semantics.specs.Totals.{held};
 ghost use Rattle.semantics.specs.Outcome.{zeros};
+ghost use Rattle.words.specs.Arrays.{zerosThen};
 
 mod halves;
+mod pairs;
+mod totals;
+
+pub use pairs::Pair;
+pub use pairs::from_words;
+pub use pairs::lower_word;
+pub use pairs::upper_word;
+pub use totals::exact_mul;
+pub use totals::held_add;
+pub use totals::held_mul;
+pub use totals::held_mul_pair;
 
 fn wide(x: u8) -> u32
     ensures { λ r. ⌜ (r ≡ x) × (r < 256) ⌝ }
@@ -60,44 +71,15 @@ pub fn ones(mask: u32) -> u32
     u32::count_ones(mask)
 }
 
-// The holding limit of document 01.
-const LIMIT: u32 = 4294967295;
-
-// A sum that stays at the limit.
-pub fn held_add(a: u32, b: u32) -> u32
-    ensures { λ r. ⌜ r ≡ held (a + b) ⌝ }
+// Zeroes the first n words.
+pub fn clear_first(words: &mut [u32], n: usize)
+    requires { ⌜ n ≤ length (now words) ⌝ }
+    ensures { λ _. ⌜ now (words .exit) ≡ zerosThen n (now (words .entry)) ⌝ }
 {
-    if b <= LIMIT - a { a + b } else { LIMIT }
-}
-
-// A word times a half, held. The product of the word's upper half counts 65,536 times.
-fn held_mul_half(a: u32, half: u32) -> u32
-    requires { ⌜ half < 65536 ⌝ }
-    ensures { λ r. ⌜ r ≡ held (a * half) ⌝ }
-{
-    let upper_product = halves::product(halves::upper(a), half);
-    let lower_product = halves::product(halves::lower(a), half);
-    if upper_product < 65536 {
-        held_add(upper_product << 16, lower_product)
-    } else {
-        LIMIT
-    }
-}
-
-// A product that stays at the limit. One of the numbers is a half, or the product is past the limit.
-pub fn held_mul(a: u32, b: u32) -> u32
-    ensures { λ r. ⌜ r ≡ held (a * b) ⌝ }
-{
-    if b < 65536 {
-        if a < 65536 {
-            halves::product(a, b)
-        } else {
-            held_mul_half(a, b)
-        }
-    } else if a < 65536 {
-        held_mul_half(b, a)
-    } else {
-        LIMIT
+    let mut i = 0;
+    while i < n {
+        words[i] = 0;
+        i += 1;
     }
 }
 
@@ -105,11 +87,8 @@ pub fn held_mul(a: u32, b: u32) -> u32
 pub fn clear(words: &mut [u32])
     ensures { λ _. ⌜ now (words .exit) ≡ zeros (now (words .entry)) ⌝ }
 {
-    let mut i = 0;
-    while i < words.len() {
-        words[i] = 0;
-        i += 1;
-    }
+    let n = words.len();
+    clear_first(words, n);
 }
 
 // Whether both have the same words, in the same places.
