@@ -63,9 +63,9 @@
 extern "C" {
 #endif
 
-/* The answers, by number. 12 is pigrozd_join's alone. 15 is pigrozd_slow_join's alone, and stands there in the place of 10. 16
- * and 18 are pigrozd_result_at's alone, and 17 is pigrozd_number_of's alone. 13 is no answer of the library: the programs give
- * it where their standard input is too long. */
+/* The answers, by number. 15 is pigrozd_slow_join's alone, and stands there in the place of 10. 16 and 18 are
+ * pigrozd_result_at's alone, and 17 is pigrozd_number_of's alone. 13 is no answer of the library: the programs give it where
+ * their standard input is too long. 12 is retired: no call gives it, which is proved, and it is not used again. */
 enum pigrozd_number {
     PIGROZD_JOINED = 0,
     PIGROZD_CUT_OFF = 1,           /* the file is cut off; detail: offset of the record that is cut */
@@ -79,7 +79,6 @@ enum pigrozd_number {
     PIGROZD_NO_HOLDER = 9,         /* a join has a side where no table holds its join attributes; detail: index of its FF */
     PIGROZD_SCRATCH_SHORT = 10,    /* the scratch is too short; detail: words needed */
     PIGROZD_OUTPUT_SHORT = 11,     /* more results than the output fits; detail: number of results, or PIGROZD_HOLD_LIMIT */
-    PIGROZD_COUNTS_DIFFER = 12,    /* two counts of the results differ; never given, which is proved; detail: 0 */
     PIGROZD_NO_PLAN_FOUND = 14,    /* no plan can be found for these tables; detail: lowest number of a table that remains */
     PIGROZD_TOO_MANY_CHOICES = 15, /* more choices than the slow engine goes through; detail: 0 */
     PIGROZD_NO_SUCH_RESULT = 16,   /* n is not below the number of results; detail: number of results */
@@ -90,7 +89,7 @@ enum pigrozd_number {
 /* The name that 9 had before plans were mended; a plan that is not well-behaved is no longer refused for that. */
 #define PIGROZD_NOT_WELL_BEHAVED PIGROZD_NO_HOLDER
 
-/* number: 0 to 12, or 14. After PIGROZD_JOINED detail is 0, and rows and the four counts follow. Any other number is a refusal:
+/* number: 0 to 11, or 14. After PIGROZD_JOINED detail is 0, and rows and the four counts follow. Any other number is a refusal:
  * detail says where or how much, and the rest is 0. */
 typedef struct pigrozd_answer {
     uint64_t number;

@@ -841,7 +841,7 @@ def write(path, data):
 
 def after(answer, scratch):
     """What the test program says of the buffers after a call."""
-    state = "empty" if scratch == 0 else "zero" if answer[0] in (0, 11, 12) else "unchanged"
+    state = "empty" if scratch == 0 else "zero" if answer[0] in (0, 11) else "unchanged"
     return "scratch %s, %s\n" % (state, after_output(answer[2]))
 
 

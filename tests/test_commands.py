@@ -594,7 +594,6 @@ class RowsOfPrints(Folder):
             r"10 118: the scratch is too short \(words needed: 118\); pigrozd join .*out has more room": "10 118",
             "11 5: .*; pigrozd join .*out has more room": "11 5",
             "13 65536: .*; pigrozd join .*out has more room": "13 65536",
-            "12 0: .*; it is never given": "12 0",
         }.items():
             stdin = ("refused %s\n" % text).encode()
             self.fails("refused " + pattern, "rows", self.at("out"), stdin=stdin, status=1)
@@ -603,6 +602,7 @@ class RowsOfPrints(Folder):
         for pattern, text in {
             "line 1: expected rows N": "",
             "line 1: expected rows N or refused": "refused 99 0\n",
+            "line 1: expected rows N or refused .*, found 'refused 12 0'": "refused 12 0\n",  # which is retired
             "line 1: expected rows N or refused ?": "refused 0 0\n",
             "line 3: expected a row, found 'steps": "rows 2\n1 2 3 4\nsteps 1 1 1 1\n",
             "3 rows and then steps expected behind line 1, found 1 line": "rows 3\n1 2 3 4\n",

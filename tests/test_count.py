@@ -3,7 +3,6 @@ and by the command."""
 import array
 import dataclasses
 import itertools
-import math
 import pickle
 import random
 import unittest
@@ -372,24 +371,20 @@ class Reference(unittest.TestCase):
         self.assertGreater(seen, 500)
 
     def test_totals(self):
-        """The total counted from the groups is the number of results, or the limit."""
-        for name, data in samples().items():
-            tables, code = read_or_none(data)
-            if tables and math.prod(t.rows for t in tables) > reference.MOST_TRIED:
-                plan = reference.check_plan(tables, code)
-                totals = sum(reference.total(tables, plan, y) for y in range(tables[reference.names(plan)[0]].rows))
-                with self.subTest(name):
-                    self.assertEqual(min(HOLD, totals), min(HOLD, reference.numbering(tables, plan).count()))
-
-
-def read_or_none(data):
-    """The tables and the plan of a file that is within the rules; else nothing."""
-    try:
-        tables, code = reference.read(data)
-        reference.check_plan(tables, code)
-    except reference.Refused:
-        return None, None
-    return tables, code
+        """The total counted from the groups is the number of results, or the limit: of samples and of drawn tables,
+        whose plans are sent well-behaved, mended or found."""
+        chance, numbers = random.Random(68), set()
+        drawn = [drawn_tables(chance, 0.1) for _ in range(500)]
+        files = {str(i): pigrozd.make_file(tables, plan if i % 2 else None) for i, (tables, plan) in enumerate(drawn)}
+        for name, data in {**samples(), **files}.items():
+            with self.subTest(name):
+                try:
+                    tables, plan, _, _, count = reference.counted(data)
+                except reference.Refused:
+                    continue
+                self.assertEqual(reference.counted_total(tables, plan), min(HOLD, count))
+                numbers.add(min(HOLD, count))
+        self.assertLess({0, 1, 2, 2**32 - 1, 2**32, HOLD - 1, HOLD}, numbers)
 
 
 if __name__ == "__main__":

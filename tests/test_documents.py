@@ -6,6 +6,8 @@ import unittest
 
 from support import load, path
 
+import pigrozd
+
 SPECS, PROOFS = "crates/semantics/specs", "crates/theory/proofs"
 
 
@@ -60,6 +62,41 @@ class Trust(unittest.TestCase):
         proofs = text("crates", "join", "proofs", "Corollaries.antt")
         for name in named.groups():
             self.assertTrue(" pub %s :" % name in proofs, name)
+
+
+class Retired(unittest.TestCase):
+    """12 is retired: one definition keeps the number, no code gives it, and no answer has it for its name."""
+
+    def lines(self, *parts):
+        """The lines of a file that have the number."""
+        return re.findall(r"^.*(?<![\w.,-])12(?![\w,-]).*$", text(*parts), re.M)
+
+    def test_definition(self):
+        told = self.lines("crates", "semantics", "specs", "Outcome.antt")
+        self.assertEqual(len(told), 2)
+        self.assertIn('request U8: "12 is retired and not used again"', told[0])
+        self.assertEqual(told[1], "retiredNumber = 12")
+
+    def test_code(self):
+        sources = glob.glob(path("crates", "*", "src", "**", "*.rt"), recursive=True)
+        self.assertGreater(len(sources), 25)
+        for source in sources + glob.glob(path("bench", "src", "*.rs")):
+            with open(source, encoding="utf-8") as file:
+                self.assertNotRegex(file.read(), r"(Refused\(|Err\(\(|number: *)12\b", source)
+
+    def test_names(self):
+        self.assertNotIn(12, pigrozd.MEANINGS)
+        header = text("include", "pigrozd.h")
+        self.assertNotRegex(header, r"PIGROZD_\w+ *=? *12\b")
+        self.assertIn("12 is retired", header)
+        self.assertIn("12 is retired", text("man", "pigrozd_join.3"))
+
+    def test_page(self):
+        """The page of 12 is one paragraph; it names theorems, which `tests/test_pages.sh` looks up."""
+        title, paragraph = text("docs", "answers", "12.md").rstrip().split("\n\n")
+        self.assertEqual(title, "# 12: retired")
+        for theorem in ("total-counts-choices", "only-three", "join-never-retired"):
+            self.assertIn("`%s` in `crates/" % theorem, paragraph.replace("\n", " "))
 
 
 if __name__ == "__main__":

@@ -13,14 +13,14 @@ same() { # WHAT WANTED FOUND
     failures=$((failures + 1))
 }
 
-# name and number of each answer; 15 is the slow engine's alone, which never gives 10 and 12; 16 to 18 are those of the two functions
-# for one result, which have one page and never give 12
+# name and number of each answer; 15 is the slow engine's alone, which never gives 10; 16 to 18 are those of the two functions for one
+# result, which have one page
 sed -n 's/^    \(PIGROZD_[A-Z_]*\) = \([0-9]*\).*/\1 \2/p' include/pigrozd.h >"$room/answers"
 sed -n 's/^| \[\([0-9]*\)\].*| `\(PIGROZD_[A-Z_]*\)` |$/\2 \1/p' docs/answers/README.md >"$room/table"
 same 'docs/answers has other answers' answers table
 grep -v ' 1[5-8]$' "$room/answers" >"$room/join_answers"
-grep -v -e ' 10$' -e ' 12$' -e ' 1[6-8]$' "$room/answers" >"$room/slow_join_answers"
-grep -v -e ' 12$' -e ' 15$' "$room/answers" >"$room/result_at_answers"
+grep -v -e ' 10$' -e ' 1[6-8]$' "$room/answers" >"$room/slow_join_answers"
+grep -v ' 15$' "$room/answers" >"$room/result_at_answers"
 for page in join slow_join result_at; do
     sed -n 's/^\(PIGROZD_[A-Z_]*\)	\([0-9]*\)	.*/\1 \2/p' man/pigrozd_$page.3 >"$room/$page"
     head -n "$(wc -l <"$room/${page}_answers")" "$room/$page" >"$room/manual"

@@ -11,6 +11,7 @@ class Meaning(NamedTuple):
     detail: str
 
 
+# 12 is retired and not used again (docs/answers/12.md).
 MEANINGS: Dict[int, Meaning] = {
     0: Meaning("joined", "0"),
     1: Meaning("the file is cut off", "offset of the record that is cut"),
@@ -24,7 +25,6 @@ MEANINGS: Dict[int, Meaning] = {
     9: Meaning("a join has a side where no table holds its join attributes", "index of an FF in the plan"),
     10: Meaning("the scratch is too short", "words needed"),
     11: Meaning("more results than the output fits", "number of results"),
-    12: Meaning("two counts of the results differ", "0"),
     13: Meaning("standard input is too long", "65536"),
     14: Meaning("no plan can be found for these tables", "lowest number of a table that remains"),
     15: Meaning("more choices than the slow engine goes through", "0"),

@@ -320,8 +320,6 @@ def what_helps(path: str, refused: Refused, values: int) -> str:
         return "%s shows the place" % command_text("dump", operand(path), "--answer", *answer)
     if refused.number == NONE_FOUND:
         return "%s shows why" % command_text("plan", operand(path))
-    if refused.number == 12:
-        return "it is never given, and docs/answers/12.md says what to look at"
     if refused.number == TOO_MANY_CHOICES:
         return "it is the slow engine's answer, and this program never gives it"
     if refused.number >= NO_SUCH_RESULT:

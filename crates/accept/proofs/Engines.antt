@@ -2,10 +2,11 @@
 use mathlib.Core.Path.{_≡_, sym, ap, _∙_}
 use mathlib.Core.List.{List}
 use Prim.Native.Nat.{ℕ}
-use Rattle.semantics.specs.Outcome.{Outcome, outcome}
+use Rattle.semantics.specs.Outcome.{Outcome, retiredNumber, outcome}
 use Rattle.semantics.specs.Exhaustive.{SlowOutcome, slowOutcome}
 use Rattle.theory.specs.Engines.{shown}
 use Rattle.theory.proofs.Engines.{engines-agree, never-10, never-15}
+use Rattle.theory.proofs.Retired.{join-never-retired, slow-never-retired}
 use Rattle.join.specs.declared.answers.Answer.{Answer as Joined}
 use Rattle.join.specs.Answers.{Joins, leaves as joinLeaves}
 use Rattle.exhaustive.specs.declared.answers.Answer.{Answer as Tried}
@@ -35,9 +36,13 @@ module _ {bytes s o s′ joined slow : List ℕ} {a : Given} {b : SlowGiven} (J 
       let e = agreed bytes s o (record { answer = answerFrom a; scratch = s′; output = joined }) (slowFrom b slow) (J .is) (T .is) not10 not15 in
       (ap (λ r. r .number) e, ap (λ r. r .detail) e, ap (λ r. r .out) e, ap (λ r. r .output) e)
 
-  -- the slow engine never says 10 nor 12, and the join never says 15
-  pub only-theirs : (b .number ≡ 10 → ⊥) × (b .number ≡ 12 → ⊥) × (a .number ≡ 15 → ⊥)
-  only-theirs =
-      let n = never-10 bytes o in
-      let e = ap (λ r. r .number) (T .is) in
-      ((λ q. n .0 (sym e ∙ q)), (λ q. n .1 (sym e ∙ q)), λ q. never-15 bytes s o (sym (ap (λ r. r .answer .number) (J .is)) ∙ q))
+  -- the slow engine never says 10, and the join never says 15
+  pub only-theirs : (b .number ≡ 10 → ⊥) × (a .number ≡ 15 → ⊥)
+  only-theirs = ((λ q. never-10 bytes o (sym (ap (λ r. r .number) (T .is)) ∙ q)), λ q. never-15 bytes s o (sym (ap (λ r. r .answer .number) (J .is)) ∙ q))
+
+  -- and neither says the retired number
+  pub neither-retired : (a .number ≡ retiredNumber → ⊥) × (b .number ≡ retiredNumber → ⊥)
+  neither-retired = (
+    λ q. join-never-retired bytes s o (sym (ap (λ r. r .answer .number) (J .is)) ∙ q),
+    λ q. slow-never-retired bytes o (sym (ap (λ r. r .number) (T .is)) ∙ q),
+  )

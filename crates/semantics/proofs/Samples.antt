@@ -8,9 +8,9 @@ use Rattle.semantics.specs.Plans.{planOf}
 use Rattle.semantics.specs.Shapes.{attributes, shapeOf, holds, shared, joinAttributes, leftRows, rowsIn, width, scratchNeed, outputFits}
 use Rattle.semantics.specs.Mending.{holdsAll, holders, topmost, hang, chosen, rightRoot, leftRoot, mendedRoot, mend, penalty, bothHold}
 use Rattle.semantics.specs.Elimination.{without, lowest, sharedIn, sharedAttributes, parentOf, eliminate}
-use Rattle.semantics.specs.Results.{baseOf, rowNumbers, recorded, recordedKey, agrees, results, tuple, participants, key, leftKey, rightKey, matches, entered, walked}
+use Rattle.semantics.specs.Results.{baseOf, rowNumbers, recorded, recordedKey, agrees, results, tuple, participants, key, leftKey, rightKey, entered, walked}
 use Rattle.semantics.specs.SearchTrees.{bitAt, compared}
-use Rattle.semantics.specs.Totals.{holdLimit, held, group, countedTotal}
+use Rattle.semantics.specs.Totals.{holdLimit, held}
 use Rattle.semantics.specs.Counts.{enteredKeys, soughtKeys, entries, lookups, comparisons, visits}
 use Rattle.semantics.specs.Outcome.{sentVerdict, foundVerdict, asksForPlan, planVerdict, readVerdict, rulesVerdict, scratchVerdict, verdict, zeros, joinedAnswer, joinOutcome, outcome, figuresOf, figures}
 use Rattle.semantics.specs.Exhaustive.{choiceCount, choicesVerdict, slowVerdict, choicesOutcome, slowOutcome}
@@ -22,5 +22,5 @@ pub sample-bytes : (sampleFile ≡ sampleBytes) × (length sampleBytes ≡ 126)
 sample-bytes = (refl, refl)
 
 pub samples-hold : map seen samples ≡ map expected samples
-unfolding seen expected resultOutcome resultPastTen resultGiven numberOutcome numberPastTen tooMany namesResult choiceOf rowsByTable numberOf resultAt slowOutcome choicesOutcome slowVerdict choicesVerdict choiceCount outcome figures figuresOf joinOutcome joinedAnswer zeros verdict scratchVerdict rulesVerdict readVerdict planVerdict asksForPlan foundVerdict sentVerdict eliminate parentOf sharedAttributes sharedIn lowest without visits comparisons lookups entries soughtKeys enteredKeys countedTotal group held holdLimit compared bitAt matches entered walked recordedKey recorded rightKey leftKey key participants tuple results agrees rowNumbers baseOf outputFits scratchNeed width rowsIn leftRows mend penalty mendedRoot leftRoot rightRoot chosen hang topmost holders holdsAll bothHold joinAttributes shared holds shapeOf attributes planOf read readFrom planRecord tableRecord markOf value columnStart columnBytes arity onesBelow hasBit bit wordAt upTo
+unfolding seen expected resultOutcome resultPastTen resultGiven numberOutcome numberPastTen tooMany namesResult choiceOf rowsByTable numberOf resultAt slowOutcome choicesOutcome slowVerdict choicesVerdict choiceCount outcome figures figuresOf joinOutcome joinedAnswer zeros verdict scratchVerdict rulesVerdict readVerdict planVerdict asksForPlan foundVerdict sentVerdict eliminate parentOf sharedAttributes sharedIn lowest without visits comparisons lookups entries soughtKeys enteredKeys held holdLimit compared bitAt entered walked recordedKey recorded rightKey leftKey key participants tuple results agrees rowNumbers baseOf outputFits scratchNeed width rowsIn leftRows mend penalty mendedRoot leftRoot rightRoot chosen hang topmost holders holdsAll bothHold joinAttributes shared holds shapeOf attributes planOf read readFrom planRecord tableRecord markOf value columnStart columnBytes arity onesBelow hasBit bit wordAt upTo
 samples-hold = refl

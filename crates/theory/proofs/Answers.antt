@@ -1,5 +1,5 @@
--- What the parts come to for the outcome of a call: when each answer is given, what the buffers hold after it, that 12 is
--- never given, and demand 3's bound.
+-- What the parts come to for the outcome of a call: when each answer is given, what the buffers hold after it, and demand
+-- 3's bound.
 use mathlib.Core.Path.{_≡_, refl}
 use mathlib.Core.List.{List, _++_}
 use mathlib.Core.Logic.{_⊎_, inl, inr}
@@ -8,31 +8,25 @@ use native.Mathlib.Omega.{arith}
 use native.Mathlib.Nat.{div-le-self}
 use lib.ListN.{length, drop, getD}
 use lib.Dec.{ltb}
-use borrow.Author.Tests.{eq-eqb, lt-ltb, le-ltb, ltb-true, ltb-false}
+use borrow.Author.Tests.{lt-ltb, le-ltb, ltb-true, ltb-false}
 use Rattle.semantics.specs.Lists.{concatMap}
-use Rattle.theory.specs.Rules.{Bytes, WellBehaved, BeforeTen, ThroughTen, WithinRules}
+use Rattle.theory.specs.Rules.{Bytes, BeforeTen, ThroughTen, WithinRules}
 use Rattle.semantics.specs.Files.{Table}
 use Rattle.semantics.specs.Plans.{Plan}
 use Rattle.semantics.specs.Shapes.{noTable, width, scratchNeed, outputFits}
 use Rattle.semantics.specs.Results.{Base, Pick, baseOf, results, tuple}
-use Rattle.semantics.specs.Totals.{holdLimit, held, countedTotal}
+use Rattle.semantics.specs.Totals.{held}
 use Rattle.semantics.specs.Outcome.{Outcome, refusal, refused, admitted, rulesVerdict, scratchVerdict, verdict, zeros, joinedAnswer, joinOutcome, outcome, figuresOf, figures, WithinBound}
 use Rattle.theory.proofs.Cases.{cases}
 use Rattle.theory.proofs.Reading.{value-small}
-use Rattle.theory.proofs.Totals.{counted-results}
 use Rattle.theory.proofs.Bound.{rowsOf, bound}
-use Rattle.theory.proofs.Rules.{verdict-cases, rules-number, rules-within, verdict-number, through-ten, verdict-within, verdict-rules, scratch-short, scratch-enough, tables-count, rows-count}
+use Rattle.theory.proofs.Rules.{verdict-cases, rules-number, rules-within, verdict-number, through-ten, verdict-rules, scratch-short, scratch-enough, tables-count, rows-count}
 
 -- ---- past 10
 -- an output never fits more rows than the holding limit counts
 pub fits-le : (w words : ℕ) → outputFits w words ≤ 1048576
 unfolding outputFits
 fits-le w words = omega (arith, div-le-self (min words 1048576) w)
-
--- "the total counted from the groups" is the number of results, where the output fits them
-counted-exact : (D : Base) (p : Plan) (w words : ℕ) → WellBehaved (D .shape) p → length (results D p) ≤ outputFits w words → countedTotal D p ≡ length (results D p)
-unfolding held holdLimit
-counted-exact D p w words h f = omega (arith, counted-results D p h, fits-le w words)
 
 -- more results than the output fits: 11
 pub joins-more : (D : Base) (p : Plan) (w : ℕ) (s o : List ℕ) → outputFits w (length o) < length (results D p)
@@ -41,11 +35,10 @@ unfolding joinOutcome
 joins-more D p w s o h = rw (lt-ltb (outputFits w (length o)) (length (results D p)) h, joinOutcome)
 
 -- else they are joined
-pub joins-all : (D : Base) (p : Plan) (w : ℕ) (s o : List ℕ) → WellBehaved (D .shape) p → length (results D p) ≤ outputFits w (length o)
+pub joins-all : (D : Base) (p : Plan) (w : ℕ) (s o : List ℕ) → length (results D p) ≤ outputFits w (length o)
     → joinOutcome D p w s o ≡ record { answer = joinedAnswer D p; scratch = zeros s; output = concatMap (tuple D) (results D p) ++ drop (w * length (results D p)) o }
 unfolding joinOutcome
-joins-all D p w s o b h =
-    rw (le-ltb (outputFits w (length o)) (length (results D p)) h, eq-eqb (countedTotal D p) (length (results D p)) (counted-exact D p w (length o) b h), joinOutcome)
+joins-all D p w s o h = rw (le-ltb (outputFits w (length o)) (length (results D p)) h, joinOutcome)
 
 -- ---- when each answer is given, and what it leaves
 -- a file that is not within the rules: a number before 10, and no buffer changes
@@ -70,8 +63,8 @@ module _ (bytes s o : List ℕ) (ts : List Table) (p : Plan) (e : rulesVerdict b
   -- 0: otherwise. So a file within the rules is turned away by 10 and 11 alone
   pub answer-0 : scratchNeed ts p ≤ length s → length rs ≤ outputFits (width ts) (length o)
       → outcome bytes s o ≡ record { answer = joinedAnswer (baseOf bytes ts) p; scratch = zeros s; output = concatMap (tuple (baseOf bytes ts)) rs ++ drop (width ts * length rs) o }
-  unfolding outcome baseOf
-  answer-0 h f = rw (scratch-enough bytes (length s) ts p e h, outcome) (joins-all (baseOf bytes ts) p (width ts) s o ((rules-within bytes ts p e) .behaved) f)
+  unfolding outcome
+  answer-0 h f = rw (scratch-enough bytes (length s) ts p e h, outcome) (joins-all (baseOf bytes ts) p (width ts) s o f)
 
 -- every outcome is one of three: refused up to 10, 11, and 0
 pub outcome-cases : (P : Outcome → Type 0) (bytes s o : List ℕ)
@@ -79,7 +72,7 @@ pub outcome-cases : (P : Outcome → Type 0) (bytes s o : List ℕ)
     → ((n : ℕ) → P (record { answer = refusal 11 n; scratch = zeros s; output = o }))
     → ((ts : List Table) (p : Plan) → rulesVerdict bytes ≡ admitted ts p → (after : List ℕ) → P (record { answer = joinedAnswer (baseOf bytes ts) p; scratch = zeros s; output = after }))
     → P (outcome bytes s o)
-unfolding outcome baseOf
+unfolding outcome
 outcome-cases P bytes s o f g h =
     verdict-cases (verdict bytes (length s))
     (λ n d e. rw (e, outcome) (f n d (verdict-number bytes (length s) n d e)))
@@ -88,13 +81,8 @@ outcome-cases P bytes s o f g h =
     cases (ltb (outputFits (width ts) (length o)) (length (results D p)))
     (λ c. rw (e, outcome) (rw (joins-more D p (width ts) s o (ltb-true (outputFits (width ts) (length o)) (length (results D p)) c)) (g (held (length (results D p))))))
     (λ c. rw (e, outcome)
-    (rw (joins-all D p (width ts) s o ((verdict-within bytes (length s) ts p e) .behaved) (ltb-false (outputFits (width ts) (length o)) (length (results D p)) c))
+    (rw (joins-all D p (width ts) s o (ltb-false (outputFits (width ts) (length o)) (length (results D p)) c))
     (h ts p ((verdict-rules bytes (length s) ts p e) .0) (concatMap (tuple D) (results D p) ++ drop (width ts * length (results D p)) o)))))
-
--- 12 is never given, whatever the file and the buffers
-pub never-12 : (bytes s o : List ℕ) → (outcome bytes s o) .answer .number ≡ 12 → ⊥
-unfolding joinedAnswer
-never-12 bytes s o = outcome-cases (λ r. r .answer .number ≡ 12 → ⊥) bytes s o (λ n d a e. (through-ten n a) .2 e) (λ n e. omega arith) (λ ts p e after q. omega arith)
 
 -- the numbers that are given: 0, 11, and those up to 10 in the order
 pub number-given : (bytes s o : List ℕ) → let n = (outcome bytes s o) .answer .number in (n ≡ 0) ⊎ ((n ≡ 11) ⊎ ThroughTen n)

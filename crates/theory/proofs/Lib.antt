@@ -49,6 +49,7 @@ pub mod ChoiceNumbers
 pub mod RowProducts
 pub mod Engines
 pub mod Access
+pub mod Retired
 pub mod Bags
 pub mod MendedBags
 pub mod FileBags

@@ -8,7 +8,7 @@ use native.Mathlib.Omega.{arith}
 use native.Mathlib.Nat.{zero-add}
 use lib.ListN.{length, drop, getD, length-drop}
 use lib.Seq.{getD-drop, ext-getD}
-use lib.Dec.{eqb, ltb, leb}
+use lib.Dec.{ltb, leb}
 use borrow.Author.Tests.{le-ltb, lt-leb}
 use Rattle.theory.specs.Elements.{Each}
 use Rattle.semantics.specs.Files.{Table, columnBytes, wordAt, nextMark, nextTable, Reading, readFrom, read}
@@ -16,7 +16,6 @@ use Rattle.theory.specs.AlikeFiles.{inColumn, SameOutsideColumns}
 use Rattle.semantics.specs.Plans.{Plan}
 use Rattle.semantics.specs.Shapes.{width, outputFits}
 use Rattle.semantics.specs.Results.{Base, baseOf, results}
-use Rattle.semantics.specs.Totals.{countedTotal}
 use Rattle.semantics.specs.Outcome.{Outcome, readVerdict, rulesVerdict, scratchVerdict, verdict, joinedAnswer, joinOutcome, outcome}
 use Rattle.theory.proofs.Cases.{cases}
 use Rattle.theory.proofs.Lists.{any-append, Each-map, Each-append}
@@ -132,8 +131,7 @@ PastTen r = (r .answer .number ≡ 0) ⊎ (11 ≤ r .answer .number)
 past-ten : (D : Base) (p : Plan) (w : ℕ) (s o : List ℕ) → PastTen (joinOutcome D p w s o)
 unfolding joinOutcome joinedAnswer
 past-ten D p w s o =
-    cases (ltb (outputFits w (length o)) (length (results D p))) (λ h. rw (h, joinOutcome) (inr (omega arith)))
-    (λ h. cases (eqb (countedTotal D p) (length (results D p))) (λ c. rw (h, c, joinOutcome) (inl refl)) (λ c. rw (h, c, joinOutcome) (inr (omega arith))))
+    cases (ltb (outputFits w (length o)) (length (results D p))) (λ h. rw (h, joinOutcome) (inr (omega arith))) (λ h. rw (h, joinOutcome) (inl refl))
 
 -- two files that differ only inside columns get the same answer, or answers that are both past 10
 pub answers-values : (f g s o : List ℕ) → SameOutsideColumns f g → (outcome f s o ≡ outcome g s o) ⊎ (PastTen (outcome f s o) × PastTen (outcome g s o))

@@ -6,6 +6,7 @@ pub mod Trees
 pub mod Selections
 pub mod Orders
 pub mod Rows
+pub mod Totals
 pub mod Enumeration
 pub mod ChoiceNumbers
 pub mod ResultBlocks
