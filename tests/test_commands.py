@@ -140,7 +140,8 @@ class Dumping(Folder):
         )
         out, _ = self.command("dump", "--answer", "6", "126", bad)
         self.assertIn("     126  end of the file\n          ^^ answer 6", out)
-        self.fails("there is no such answer", "dump", bad, "--answer", "99", "0")
+        for none in ("99", "12"):  # 12 is retired
+            self.fails("there is no such answer", "dump", bad, "--answer", none, "0")
         self.fails("none: No such file", "dump", self.at("none"))
         self.fails("Is a directory", "dump", self.folder)
         self.write("bad.names", "frame\n")
