@@ -1,4 +1,5 @@
-"""Tests that documents name what is there: definitions and theorems, numbers of crates and of wrong versions."""
+"""Tests that documents name what is there: definitions and theorems, numbers of crates and of wrong versions. And that
+nothing but its retirement names the answer 12."""
 import glob
 import os
 import re

@@ -103,7 +103,7 @@ pub scratch-kept : (bytes s o : List ℕ) → let r = outcome bytes s o in Throu
 unfolding joinedAnswer
 scratch-kept bytes s o =
     outcome-cases (λ r. ThroughTen (r .answer .number) → r .scratch ≡ s) bytes s o
-    (λ n d a h. refl) (λ n h. absurd ((through-ten 11 h) .1 refl)) (λ ts p e after h. let z = (through-ten 0 h) .0 in absurd (omega arith))
+    (λ n d a h. refl) (λ n h. absurd ((through-ten 11 h) .2 refl)) (λ ts p e after h. let z = (through-ten 0 h) .0 in absurd (omega arith))
 
 -- and is all zero after the others, 0 and 11
 pub scratch-zero : (bytes s o : List ℕ) → let r = outcome bytes s o in (ThroughTen (r .answer .number) → ⊥) → r .scratch ≡ zeros s

@@ -16,7 +16,7 @@ use Rattle.semantics.specs.Shapes.{noTable, shapeOf, holds, rowsIn, scratchNeed
 use Rattle.semantics.specs.Mending.{mend, unmendable}
 use Rattle.semantics.specs.Elimination.{Hanging, rooted, eliminate, planUnder}
 use Rattle.theory.specs.Details.{WithoutPlan}
-use Rattle.semantics.specs.Outcome.{Verdict, refused, admitted, sentVerdict, foundVerdict, asksForPlan, planVerdict, readVerdict, rulesVerdict, scratchVerdict, verdict}
+use Rattle.semantics.specs.Outcome.{retiredNumber, Verdict, refused, admitted, sentVerdict, foundVerdict, asksForPlan, planVerdict, readVerdict, rulesVerdict, scratchVerdict, verdict}
 use Rattle.theory.specs.Rules.{BeforeTen, ThroughTen, WithinRules}
 use Rattle.theory.proofs.Cases.{cases, option-cases, true-false}
 use Rattle.theory.proofs.Lists.{Each-map, sum-one, any-sum, length-filter-sum}
@@ -138,11 +138,11 @@ rules-within bytes ts p e = (rw e at (rules-judged bytes)) .1
 pub verdict-number : (bytes : List ℕ) (words n d : ℕ) → verdict bytes words ≡ refused n d → ThroughTen n
 verdict-number bytes words n d e = rw e at (verdict-judged bytes words)
 
--- such a number is none of those that the join gives later
-pub through-ten : (n : ℕ) → ThroughTen n → (1 ≤ n) × (n ≡ 11 → ⊥)
-through-ten n (inl (inl h)) = (h .0, λ e. omega (arith, h .1))
-through-ten n (inl (inr h)) = (omega arith, λ e. omega arith)
-through-ten n (inr h) = (omega arith, λ e. omega arith)
+-- such a number is none of those that any call gives later, which are 0, 11 and those from 15 on, and not the retired one
+pub through-ten : (n : ℕ) → ThroughTen n → (1 ≤ n) × (n ≤ 14) × (n ≡ 11 → ⊥) × (n ≡ retiredNumber → ⊥)
+through-ten n (inl (inl h)) = (h .0, omega (arith, h .1), (λ e. omega (arith, h .1)), λ e. omega (arith, h .1))
+through-ten n (inl (inr h)) = (omega arith, omega arith, (λ e. omega arith), λ e. omega arith)
+through-ten n (inr h) = (omega arith, omega arith, (λ e. omega arith), λ e. omega arith)
 
 pub verdict-within : (bytes : List ℕ) (words : ℕ) (ts : List Table) (p : Plan) → verdict bytes words ≡ admitted ts p → WithinRules ts p
 verdict-within bytes words ts p e = (rw e at (verdict-judged bytes words)) .1
