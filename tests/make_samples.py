@@ -117,6 +117,8 @@ def record_samples():
     sample("mark_reversed", b"BT" + P1[2:])
     sample("mark_of_second_record_other", P1[:42] + b"tb" + P1[44:])
     sample("mark_of_plan_reversed", P1[:118] + b"LP" + P1[120:])
+    sample("mark_of_plan_first_byte_other", P1[:118] + b"QL" + P1[120:])
+    sample("mark_of_plan_second_byte_other", P1[:118] + b"PM" + P1[120:])
     sample("attributes_none", record(0, 1, [5]) + plan(0))
     sample("attributes_one", file([ONE], 0))
     sample("attributes_eight", file([table(range(8), range(1, 9), range(11, 19))], 0))
@@ -360,6 +362,7 @@ def key_samples():
         rights = [row + [200 + i] * len(right) for i, row in enumerate(rows[::-1] + [base])]
         names = ("no", "one", "two", "three", "four", "five", "six", "seven", "eight")
         sample("key_of_%s_attributes" % names[k], file([table(shared + left, *lefts), table(shared + right, *rights)], FF, 0, 1))
+    sample("key_on_attribute_30", file([table((30,), (5,), (6,)), table((30, 31), (6, 8), (7, 9))], FF, 0, 1))
     sample("key_on_attribute_31", file([table((0, 31), (1, LARGEST - 1), (2, 3), (4, 0)), table((1, 31), (8, 3), (9, LARGEST - 1))], FF, 0, 1))
     high = [(i << 16,) for i in range(40)]  # a path of 16 nodes before any bit differs
     sample("key_shares_low_bits", file([table((0,), *high[::3]), table((0,), *high)], FF, 0, 1))
@@ -524,6 +527,17 @@ def mended_choice_samples():
     # the same, with penalties 3 and 2; with their row counts, which a right side does not add, both would be 5
     right = linked((2, x), (3, x), (2, xy), (2, xy))
     sample("mended_right_side_adds_no_row_count", file(right, FF, 0, FF, 2, FF, 1, 3))
+    # of the whole plan's tables the first named costs more than two others, which cost the same: the first of these is the root. Without
+    # rows only the words needed tell the plans apart
+    behind = linked((2, x), (0, x), (0, xy), (0, (0, 1, 2)))
+    sample("mended_tie_behind_the_first_named", file(behind, FF, 3, FF, 1, FF, 0, 2), 22)
+    behind = linked((1, (1, 2)), (1, (0, 1, 2)), (3, (2,)), (3, y))
+    sample("mended_tie_of_rows_behind_the_first_named", file(behind, FF, 0, FF, 3, FF, 2, 1))
+    # the same of the holders of a right side, and of those of a left one
+    behind = linked((1, x), (1, (0, 1, 2)), (1, (0, 1, 2)), (3, (0, 2)), (2, (2,)), (3, (2,)))
+    sample("mended_tie_behind_a_right_sides_first_holder", file(behind, FF, 0, FF, 4, FF, 2, FF, 3, FF, 5, 1))
+    behind = linked((5, (2,)), (0, xy), (0, x), (1, x), (1, x), (0, xy), (0, (0, 2)))
+    sample("mended_tie_behind_a_left_sides_first_holder", file(behind, FF, 0, FF, FF, 1, FF, 3, FF, 2, FF, 4, 5, 6))
     # table 1 is the root on the right; on its left tables 3 and 2 cost 5 with their row counts, and 3 and 2 without
     tie = linked((4, (2,)), (1, (0, 2)), (3, x), (2, xy), (1, xy))
     sample("mended_tie_of_a_left_sides_roots", file(tie, FF, 0, FF, FF, 3, FF, 2, 4, 1))
@@ -547,6 +561,8 @@ def no_holder_samples():
     sample("no_holder_on_the_right", file([x, y, xy], FF, 2, FF, 0, 1))
     sample("no_holder_and_no_buffers", file([x, y, xy], FF, 2, FF, 0, 1), 0, 0)
     sample("no_holder_on_either_side", file([x, y, y, x], FF, FF, 0, 1, FF, 2, 3))
+    nested = [table((0, 2), (1, 1)), y, table((0, 1, 3), (1, 1, 1)), table((2, 3), (1, 1))]
+    sample("no_holder_at_the_outer_and_an_inner_join", file(nested, FF, FF, FF, 0, 1, 2, 3))
     # the first join has holders and is not well-behaved, the one of the FF at index 4 has none
     sample("no_holder_below_a_join_to_be_mended", file([x, y, xy, apart, x], FF, 4, FF, 3, FF, 2, FF, 0, 1))
     two = [x, y, xy, *(table(held, (1,) * len(held)) for held in ((4,), (5,), (4, 5)))]

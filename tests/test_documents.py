@@ -1,11 +1,12 @@
-"""Tests that documents name what is there: definitions and theorems, numbers of crates and of wrong versions. And that
-nothing but its retirement names the answer 12."""
+"""Tests that documents name what is there: definitions and theorems, numbers of crates and of wrong versions, an edit
+for each fault, functions without a contract. And that nothing but its retirement names the answer 12."""
 import glob
 import os
 import re
 import unittest
 
 from support import load, path
+from test_sources import FUNCTION, files
 
 import pigrozd
 
@@ -65,6 +66,59 @@ class Trust(unittest.TestCase):
             self.assertTrue(" pub %s :" % name in proofs, name)
 
 
+class Faults(unittest.TestCase):
+    """docs/FAULTS.md: each row of its tables names must-fail edits that are there, or says that there is no edit."""
+
+    NAMED = re.compile(r"\bedits? ((?:(?:\w+/)?`\w+`(?:, )?)+)")
+
+    def rows(self):
+        """The crate that a section names for edits without one, or None; the fault; what rules it out."""
+        for section in text("docs", "FAULTS.md").split("\n## ")[1:]:
+            crate = re.search(r"\bEdits(?: without a\scrate)? are those of\s`(\w+)`", section)
+            for line in section.splitlines():
+                if line.startswith("| ") and not line.endswith("| ruled out by |"):
+                    fault, cell = line.strip("| ").split(" | ")
+                    yield crate and crate[1], fault, cell
+
+    def edits(self, crate, cell):
+        """The crate and the name of each edit in a cell. One without a crate is that of the section's crate, or of the
+        crate named before it."""
+        before = None
+        for given, name in re.findall(r"(?:(\w+)/)?`(\w+)`", " ".join(self.NAMED.findall(cell))):
+            before = given or before
+            yield [given] if given else [crate, before], name
+
+    def test_edits(self):
+        for crate, fault, cell in self.rows():
+            with self.subTest(fault=fault):
+                edits = list(self.edits(crate, cell))
+                self.assertEqual(not edits, cell.endswith("; no edit"), "names an edit, or says: no edit")
+                for crates, name in edits:
+                    there = [c for c in crates if c and os.path.exists(path("crates", c, "must-fail", name + ".edit"))]
+                    self.assertTrue(there, "%s is no edit of %s" % (name, crates))
+
+    def test_counts(self):
+        cells = [cell for _, _, cell in self.rows()]
+        without = sum(cell.endswith("; no edit") for cell in cells)
+        self.assertIn('%d of the %d rows end in "no edit"' % (without, len(cells)), text("docs", "FAULTS.md"))
+
+
+class Contributing(unittest.TestCase):
+    """CONTRIBUTING.md: how many functions of which crates have no contract."""
+
+    def test_contracts(self):
+        without = {}
+        for file, source in files("src/**/*.rt"):
+            for found in FUNCTION.finditer(source):
+                if "ensures" not in re.split(r"\n\{\n|\{\n", source[found.end() :], maxsplit=1)[0]:
+                    crate = os.path.relpath(file, path("crates")).split(os.sep)[0]
+                    without[crate] = without.get(crate, 0) + 1
+        told = " ".join(text("CONTRIBUTING.md").split())
+        self.assertIn("%d functions of the programs have none" % sum(without.values()), told)
+        listed = re.search(r"functions of the programs have none: ([^.]*)\.", told)[1]
+        self.assertEqual({crate: int(n) for n, crate in re.findall(r"(\d+) of `(\w+)`", listed)}, without)
+
+
 class Retired(unittest.TestCase):
     """12 is retired: one definition keeps the number, no code gives it, and no answer has it for its name."""
 
@@ -93,11 +147,19 @@ class Retired(unittest.TestCase):
         self.assertIn("12 is retired", text("man", "pigrozd_join.3"))
 
     def test_page(self):
-        """The page of 12 is one paragraph; it names theorems, which `tests/test_pages.sh` looks up."""
-        title, paragraph = text("docs", "answers", "12.md").rstrip().split("\n\n")
-        self.assertEqual(title, "# 12: retired")
+        """There is no page of 12, and no link to one. What is to be said stands in 9.8 of docs/SPECIFICATION.md, with
+        theorems, which the test of section 14 looks up."""
+        self.assertFalse(os.path.exists(path("docs", "answers", "12.md")))
+        pages = [path("README.md"), path("CONTRIBUTING.md"), path("CHANGELOG.md")]
+        for pattern in ("docs/**/*.md", "man/*", "python/**/*.py"):
+            pages += glob.glob(path(pattern), recursive=True)
+        self.assertGreater(len(pages), 60)
+        for page in pages:
+            with open(page, encoding="utf-8") as file:
+                self.assertNotRegex(file.read(), r"(?<!\d)12\.md", page)
+        paragraph = re.search(r"\*\*9\.8\*\*.*?\n\n", text("docs", "SPECIFICATION.md"), re.S)[0]
         for theorem in ("total-counts-choices", "only-three", "join-never-retired"):
-            self.assertIn("`%s` in `crates/" % theorem, paragraph.replace("\n", " "))
+            self.assertIn("`%s`" % theorem, paragraph)
 
 
 if __name__ == "__main__":

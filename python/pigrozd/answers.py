@@ -11,7 +11,7 @@ class Meaning(NamedTuple):
     detail: str
 
 
-# 12 is retired and not used again (docs/answers/12.md).
+# 12 is retired and not used again (docs/SPECIFICATION.md, 9.8).
 MEANINGS: Dict[int, Meaning] = {
     0: Meaning("joined", "0"),
     1: Meaning("the file is cut off", "offset of the record that is cut"),

@@ -41,11 +41,15 @@ fn comparison_of(
 ) -> Comparison
     ensures { λ r. ⌜ r ≡ comparisonOf joined slow (now (one .entry)) (now (other .entry)) ⌝ }
 {
-    if joined.number == 10 {
-        return Comparison::Skipped;
+    let number = joined.number;
+    match number {
+        10 => return Comparison::Skipped,
+        _ => {}
     }
-    if slow.number == 15 {
-        return Comparison::Skipped;
+    let slow_number = slow.number;
+    match slow_number {
+        15 => return Comparison::Skipped,
+        _ => {}
     }
     if !same_numbers(joined, slow) {
         return Comparison::Differ;

@@ -7,3 +7,4 @@ pub mod GroupedWalks
 pub mod NumberableFiles
 pub mod ShownResults
 pub mod Calls
+pub mod Corollaries

@@ -19,14 +19,14 @@ use Rattle.theory.proofs.Cases.{cases}
 use Rattle.theory.proofs.Lists.{filter-append}
 use Rattle.theory.proofs.Mending.{cost-bound, left-holds, right-holds}
 use Rattle.mending.specs.Places.{PlanAt}
-use Rattle.mending.specs.Parts.{shapeIn, JoinIn, sidePlan, choose, slotOf, Sided, SideFor}
+use Rattle.mending.specs.Parts.{shapeIn, sizeAt, JoinIn, sidePlan, choose, slotOf, Sided, SideFor}
 use Rattle.mending.specs.Hanging.{holdsKey, heldBy, candidates}
-use Rattle.mending.specs.Rooting.{unpicked, betterOf, packed, unpacked, rowsAdded, added, sideCost, sideRoot, RootPicked, RootsRemembered, RootAsked, Buildable, MendableAt, bytesFrom, SideSearched}
+use Rattle.mending.specs.Rooting.{unpicked, betterOf, packed, unpacked, rowsAdded, added, sideCost, sideRoot, RootPicked, RootsRemembered, Given, RootAsked, Buildable, MendableAt, bytesFrom, SideSearched}
 use Rattle.mending.specs.declared.parts.Side.{Side}
 use Rattle.mending.specs.declared.rooting.Candidate.{Candidate}
 use Rattle.mending.proofs.Places.{plan-end, plan-span}
 use Rattle.mending.proofs.Bytes.{plan-small, bytesFrom-plan, bytesFrom-more, names-small}
-use Rattle.mending.proofs.Sides.{key-holds, side-stands}
+use Rattle.mending.proofs.Sides.{size-is, join-stands, key-holds, side-stands}
 use Rattle.mending.proofs.Holders.{held-table, held-small, held-key}
 use Rattle.mending.proofs.Picks.{packed-back, picked-none, picked-more}
 
@@ -115,8 +115,8 @@ module _ {s masks rows : List ℕ} {at : ℕ} {right : Bool} {side : Side} (K : 
   abbrev here : Sided masks at right (j .left) (j .right) (j .middle) (j .end) side
   here = f (j .left) (j .right) (j .middle) (j .end) (j .lefts) (j .rights)
 
-  -- its slot, and that its bytes lie behind the join's
-  pub side-bounds : (side .slot < 64) × (at < side .start) × (side .start < side .end) × (side .end ≤ length s) × (length s ≤ 31)
+  -- its slot, and that its bytes lie inside the join's
+  pub side-bounds : (side .slot < 64) × (at < side .start) × (side .start < side .end) × (side .end ≤ j .end) × (j .end ≤ length s) × (length s ≤ 31)
   side-bounds =
       let a = plan-span s (at + 1) (j .left) (j .middle) (j .lefts) in
       let b = plan-span s (j .middle) (j .right) (j .end) (j .rights) in
@@ -124,12 +124,22 @@ module _ {s masks rows : List ℕ} {at : ℕ} {right : Bool} {side : Side} (K : 
     where
       go : (right : Bool) → {m e : ℕ} → side .slot ≡ slotOf right at → side .start ≡ choose right m (at + 1) → side .end ≡ choose right e m
           → (at + 1 < m) × (m ≤ length s) × (at + 1 < length s) → (m < e) × (e ≤ length s) × (m < length s) → length s ≤ 31
-          → (side .slot < 64) × (at < side .start) × (side .start < side .end) × (side .end ≤ length s) × (length s ≤ 31)
+          → (side .slot < 64) × (at < side .start) × (side .start < side .end) × (side .end ≤ e) × (e ≤ length s) × (length s ≤ 31)
       go true p q r a b c = omega arith
       go false p q r a b c = omega arith
 
   stands-at : (x y : Plan) (m e : ℕ) → PlanAt s (at + 1) x m → PlanAt s m y e → PlanAt s (side .start) (sidePlan right x y) (side .end)
   stands-at x y m e u v = let q = f x y m e u v in rw (q .start, q .end) (side-stands s at right x y m e u v)
+
+  -- its plan is smaller than the join
+  pub side-smaller : {ends sets : List ℕ} → Given s masks rows ends sets → sizeAt ends (side .start) < sizeAt ends at
+  side-smaller {ends} {sets} g =
+      omega (
+        arith,
+        side-bounds,
+        size-is s masks ends sets (g .surveyed) at (join (j .left) (j .right)) (j .end) (join-stands j),
+        size-is s masks ends sets (g .surveyed) (side .start) (sidePlan right (j .left) (j .right)) (side .end) (stands-at (j .left) (j .right) (j .middle) (j .end) (j .lefts) (j .rights)),
+      )
 
   pub search-begun : SideSearched s masks rows at right (side .start) (side .key) 0 unpicked
   search-begun x y m e u v = let b = plan-span s m y e v in unfold candidates in picked-none (sideCost (shapeIn masks rows) right (sidePlan right x y)) s (omega arith)

@@ -17,7 +17,7 @@ use Rattle.semantics.specs.Mending.{holdsAll}
 use Rattle.theory.proofs.Cases.{cases}
 use Rattle.words.proofs.Masks.{hasBit-and, union-any, covers}
 use Rattle.mending.specs.Places.{PlanAt}
-use Rattle.mending.specs.Parts.{shapeIn, MaskWords, Parted, partIn, Surveyed, JoinIn, sidePlan, choose, JoinKey, Sided, SplitAt}
+use Rattle.mending.specs.Parts.{shapeIn, MaskWords, Parted, partIn, Surveyed, sizeAt, JoinIn, sidePlan, choose, JoinKey, Sided, SplitAt}
 use Rattle.mending.specs.Hanging.{holdsKey}
 use Rattle.mending.specs.declared.parts.Part.{Part}
 use Rattle.mending.proofs.Places.{plan-span}
@@ -67,6 +67,10 @@ survey-more s masks ends sets i r w q f =
 
 pub survey-done : (s masks ends sets : List ℕ) (i : ℕ) → length s ≤ i → SurveyedTo s masks ends sets i → Surveyed s masks ends sets
 survey-done s masks ends sets i w q at p e h = q .parts at p e (omega (arith, plan-span s at p e h)) h
+
+-- the survey gives a plan its size
+pub size-is : (s masks ends sets : List ℕ) → Surveyed s masks ends sets → (at : ℕ) (p : Plan) (e : ℕ) → PlanAt s at p e → sizeAt ends at ≡ e - at
+size-is s masks ends sets q at p e h = ap (λ n. n - at) ((q at p e h) .next)
 
 -- ---- a join: where its right plan begins and ends, and its key
 module _ (s masks ends sets : List ℕ) (at : ℕ) (q : Surveyed s masks ends sets) (x y : Plan) (m e : ℕ) (u : PlanAt s (at + 1) x m) (v : PlanAt s m y e) where
@@ -123,6 +127,10 @@ module _ (s masks ends sets : List ℕ) (at : ℕ) (q : Surveyed s masks ends se
 pub surveyed-bounds : (s masks ends sets : List ℕ) (at : ℕ) → Surveyed s masks ends sets → JoinIn s at
     → (at + 1 < getD ends (at + 1) 0) × (getD ends (at + 1) 0 < getD ends (getD ends (at + 1) 0) 0) × (getD ends (getD ends (at + 1) 0) 0 ≤ length s)
 surveyed-bounds s masks ends sets at q j = join-bounds s masks ends sets at q (j .left) (j .right) (j .middle) (j .end) (j .lefts) (j .rights)
+
+-- the join is a plan
+pub join-stands : {s : List ℕ} {at : ℕ} (j : JoinIn s at) → PlanAt s at (join (j .left) (j .right)) (j .end)
+join-stands {s} {at} j = let a = plan-span s (at + 1) (j .left) (j .middle) (j .lefts) in (omega arith, j .mark, (j .middle, j .lefts, j .rights))
 
 -- ---- the key's holders are those of the join attributes
 pub key-holds : (masks rows : List ℕ) (x y : Plan) (key : ℕ) → JoinKey masks x y key → (t : ℕ) → holdsKey key (getD masks t 0) ≡ holdsAll (shapeIn masks rows) (joinAttributes (shapeIn masks rows) x y) t

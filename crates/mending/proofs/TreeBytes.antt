@@ -25,7 +25,8 @@ use Rattle.mending.specs.declared.parts.Split.{Split}
 use Rattle.mending.specs.declared.rooting.Candidate.{Candidate}
 use Rattle.mending.proofs.Places.{plan-span}
 use Rattle.mending.proofs.Bytes.{plan-unique, plan-small, names-small}
-use Rattle.mending.proofs.Trees.{SplitSides, picked-is, joined}
+use Rattle.mending.proofs.Sides.{join-stands}
+use Rattle.mending.proofs.Trees.{SplitSides, taken-join, picked-is}
 
 tree-small : (masks rows : List ℕ) (p : Plan) (x : ℕ) → Small p → Small (treeFor (shapeIn masks rows) p x)
 tree-small masks rows p x h = each-small (treeFor (shapeIn masks rows) p x) (permutation-each (λ t. t < 16) (treeFor-tables (shapeIn masks rows) p x) (small-each p h))
@@ -88,7 +89,7 @@ module _ (s masks rows : List ℕ) (at place : ℕ) (split : Split) (x : SplitSi
         let ks = joinAttributes S (x .left) (x .right) in
         let t = treeFor S (x .own) (getD s place 0) in
         let c = treeFor S (x .other) (x .chosen) in
-        let (i, j) = plan-unique s at p (join (x .left) (x .right)) e (x .end) st (joined x w pick picks k) in
+        let (i, j) = plan-unique s at p (join (x .left) (x .right)) e (x .end) st (join-stands (taken-join x w k)) in
         let fit = sizes-fit in
         let la : length (take (split .size) tree) ≡ split .size = length-take-le (split .size) tree (omega arith) in
         let lb : length (take (split .rest) hung) ≡ split .rest = length-take-le (split .rest) hung (omega arith) in

@@ -16,14 +16,13 @@ use Rattle.theory.proofs.Cases.{cases}
 use Rattle.theory.proofs.Lists.{nonEmpty-filter}
 use Rattle.theory.proofs.Mending.{treeFor-left, treeFor-right, cost-left, cost-right, left-holds, right-holds, rightRoot-holder, leftRoot-holder}
 use Rattle.mending.specs.Places.{PlanAt, Planned}
-use Rattle.mending.specs.Parts.{shapeIn, JoinIn, sidePlan, SplitAt}
+use Rattle.mending.specs.Parts.{shapeIn, sizeAt, JoinIn, sidePlan, SplitAt}
 use Rattle.mending.specs.Hanging.{holdsKey}
-use Rattle.mending.specs.Rooting.{added, sideRoot, RootPicked, Distinct, Buildable, MendableAt}
+use Rattle.mending.specs.Rooting.{added, sideRoot, RootPicked, Distinct, Given, Buildable, MendableAt}
 use Rattle.mending.specs.declared.parts.Split.{Split}
 use Rattle.mending.specs.declared.rooting.Candidate.{Candidate}
-use Rattle.mending.proofs.Places.{plan-span}
 use Rattle.mending.proofs.Bytes.{plan-unique, planned-join, found-names, named-small, named-inside, named-left}
-use Rattle.mending.proofs.Sides.{key-holds}
+use Rattle.mending.proofs.Sides.{size-is, join-stands, key-holds}
 use Rattle.mending.proofs.Roots.{sideRoot-right, sideRoot-left, cost-small, added-small}
 
 -- the side with the root, and the other with its chosen root
@@ -52,7 +51,6 @@ pub record SplitSides (s masks rows : List ℕ) (at place : ℕ) (split : Split)
   pub costs : cost (shapeIn masks rows) (join left right) (getD s place 0) ≡ cost (shapeIn masks rows) own (getD s place 0) + (cost (shapeIn masks rows) other chosen + added (shapeIn masks rows) (split .left) chosen)
   pub otherIs : other ≡ sidePlan (split .left) left right
   pub room : at + (split .size + split .rest + 1) ≡ end
-  pub later : (at < split .own) × (at < split .other)
 
 module _ (s masks rows : List ℕ) (at place : ℕ) (split : Split) (l r : Plan) (m e : ℕ) (u : PlanAt s (at + 1) l m) (v : PlanAt s m r e) (ok : Mendable (shapeIn masks rows) (join l r))
     (d : Distinct s) (w : getD s place 0 < 16) (after : at < place) (before : place < e) (q : SplitAt masks at place l r m e split) where
@@ -98,7 +96,6 @@ module _ (s masks rows : List ℕ) (at place : ℕ) (split : Split) (l r : Plan)
         costs = rw h (omega (arith, cost-left (shapeIn masks rows) l r (getD s place 0) n));
         otherIs = rw h;
         room = omega arith;
-        later = let a = plan-span s (at + 1) l m u in omega arith;
       }
 
   taken-right : split .left ≡ false → SplitSides s masks rows at place split
@@ -134,7 +131,6 @@ module _ (s masks rows : List ℕ) (at place : ℕ) (split : Split) (l r : Plan)
         costs = rw h (cost-right (shapeIn masks rows) l r (getD s place 0) n);
         otherIs = rw h;
         room = omega arith;
-        later = let a = plan-span s (at + 1) l m u in omega arith;
       }
 
 pub buildable-planned : {s masks rows : List ℕ} {at place : ℕ} → Buildable s masks rows at place → Planned s at
@@ -159,16 +155,20 @@ module _ {s masks rows : List ℕ} {at place : ℕ} {split : Split} (x : SplitSi
   pub own-buildable : Buildable s masks rows (split .own) place
   own-buildable = record { plan = x .own; end = split .own + split .size; stands = x .ownStands; mendable = x .ownMendable; from = x .ownPlace .0; to = x .ownPlace .1; table = w }
 
-  -- the side with the root begins behind the join, inside the bytes
-  pub own-later : (at < split .own) × (split .own < length s)
-  own-later = (x .later .0, (plan-span s (split .own) (x .own) (split .own + split .size) (x .ownStands)) .2)
-
-  pub other-later : (at < split .other) × (split .other < length s)
-  other-later = (x .later .1, (plan-span s (split .other) (x .other) (split .other + split .rest) (x .otherStands)) .2)
-
   -- the join as best-root search wants it
-  pub taken-join : getD s at 0 ≡ 255 → JoinIn s at
+  abbrev pub taken-join : getD s at 0 ≡ 255 → JoinIn s at
   taken-join k = record { mark = k; left = x .left; right = x .right; middle = x .middle; end = x .end; lefts = x .lefts; rights = x .rights }
+
+  -- both sides are smaller than the join
+  pub sides-smaller : {ends sets : List ℕ} → getD s at 0 ≡ 255 → Given s masks rows ends sets → (sizeAt ends (split .own) < sizeAt ends at) × (sizeAt ends (split .other) < sizeAt ends at)
+  sides-smaller {ends} {sets} k g =
+      omega (
+        arith,
+        x .room,
+        size-is s masks ends sets (g .surveyed) at (join (x .left) (x .right)) (x .end) (join-stands (taken-join k)),
+        size-is s masks ends sets (g .surveyed) (split .own) (x .own) (split .own + split .size) (x .ownStands),
+        size-is s masks ends sets (g .surveyed) (split .other) (x .other) (split .other + split .rest) (x .otherStands),
+      )
 
   pub taken-mendable : MendableAt s masks rows at
   taken-mendable l r m e u v =
@@ -192,14 +192,11 @@ module _ {s masks rows : List ℕ} {at place : ℕ} {split : Split} (x : SplitSi
         let i = named-inside s (split .other) (x .other) (split .other + split .rest) (pick .place) d (x .otherStands) (picked .within) small (rw picked-is (x .otherNamed)) in
         record { plan = x .other; end = split .other + split .rest; stands = x .otherStands; mendable = x .otherMendable; from = i .0; to = i .1; table = small }
 
-    abbrev pub joined : getD s at 0 ≡ 255 → PlanAt s at (join (x .left) (x .right)) (x .end)
-    joined k = let c = plan-span s (at + 1) (x .left) (x .middle) (x .lefts) in (omega arith, k, (x .middle, x .lefts, x .rights))
-
     pub taken-costs : (a : ℕ) → ((p : Plan) (e : ℕ) → PlanAt s (split .own) p e → a ≡ cost (shapeIn masks rows) p (getD s place 0))
         → (p : Plan) (e : ℕ) → PlanAt s at p e → getD s at 0 ≡ 255 → a + pick .cost ≡ cost (shapeIn masks rows) p (getD s place 0)
     taken-costs a owns p e h k =
         let one : a ≡ cost (shapeIn masks rows) (x .own) (getD s place 0) = owns (x .own) (split .own + split .size) (x .ownStands) in
-        let (i, j) = plan-unique s at p (join (x .left) (x .right)) e (x .end) h (joined k) in
+        let (i, j) = plan-unique s at p (join (x .left) (x .right)) e (x .end) h (join-stands (taken-join k)) in
         ap₂ (λ f g. f + g) one picked-costs ∙ sym (x .costs) ∙ ap (λ q. cost (shapeIn masks rows) q (getD s place 0)) (sym i)
 
     pub pick-small : length s ≤ 31 → ((t : ℕ) → getD rows t 0 ≤ 4096) → (a : ℕ) → ((p : Plan) (e : ℕ) → PlanAt s (split .own) p e → a ≡ cost (shapeIn masks rows) p (getD s place 0)) → a + pick .cost ≤ 262144

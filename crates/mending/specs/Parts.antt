@@ -2,7 +2,7 @@
 use mathlib.Core.Path.{_≡_}
 use mathlib.Core.Bool.{Bool, true, false, _&&_}
 use mathlib.Core.List.{List}
-use Prim.Native.Nat.{ℕ, _+_, _*_, _<_, _≤_, _^_}
+use Prim.Native.Nat.{ℕ, _+_, _*_, _-_, _<_, _≤_, _^_}
 use lib.ListN.{length, getD}
 use lib.Dec.{ltb}
 use Rattle.semantics.specs.Lists.{any}
@@ -41,6 +41,10 @@ partIn ends sets at = record { attributes = getD sets at 0; next = getD ends at 
 -- it is what the plan that begins there comes to
 abbrev pub Surveyed : List ℕ → List ℕ → List ℕ → List ℕ → Type 0
 Surveyed s masks ends sets = (at : ℕ) (p : Plan) (e : ℕ) → PlanAt s at p e → Parted masks p e (partIn ends sets at)
+
+-- the size of the plan at an index: how many bytes it has
+abbrev pub sizeAt : List ℕ → ℕ → ℕ
+sizeAt ends at = getD ends at 0 - at
 
 -- a join stands at the index, with a left plan and a right plan behind it
 pub record JoinIn (s : List ℕ) (at : ℕ) : Type 0 where

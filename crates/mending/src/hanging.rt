@@ -49,10 +49,15 @@ fn run_start(tree: &[u8], j: usize) -> usize
 {
     let mut i = j;
     while 0 < i {
-        if tree[i - 1] != 255 {
-            return i;
+        let b = tree[i - 1];
+        match b {
+            255 => {
+                i -= 1;
+            }
+            _ => {
+                return i;
+            }
         }
-        i -= 1;
     }
     i
 }

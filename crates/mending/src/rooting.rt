@@ -1,6 +1,6 @@
 // Tree building for a root and best-root search call each other: the tree of a plan for a root asks for the best root of the other
-// side, and that question builds trees again. A tree is kept as the roots that are chosen in it. A side's root depends on the join
-// and the side alone, so each is searched for once and remembered with what it costs. A root is the index of its byte.
+// side, and that question builds trees again, each of a smaller subplan. A tree is kept as the roots that are chosen in it. A side's root
+// depends on the join and the side alone, so each is searched for once and remembered with what it costs. A root is the index of its byte.
 ghost use mathlib.Core.Path.{_≡_};
 ghost use Prim.Native.Nat.{_<_, _≤_};
 ghost use Rattle.mending.specs.Rooting.{unpicked, betterOf, packed, unpacked, rowsAdded, TreeAsked, TreeBuilt, RootAsked, RootFound};

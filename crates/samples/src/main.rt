@@ -103,12 +103,16 @@ fn print_ways_back(file: &[u8], scratch: &mut [u32], rows: &[u32], n: u64) {
     let mut k = 0;
     while k <= rows.len() {
         let answer = capi_access::pigrozd_number_of(file, scratch, &rows[..k]);
-        if answer.number == 0 {
-            io::write_all(STDOUT_FILENO, b" ");
-            io::print_decimal(STDOUT_FILENO, k as u64);
-            if answer.n != n {
-                io::write_all(STDOUT_FILENO, b" to another result");
+        let number = answer.number;
+        match number {
+            0 => {
+                io::write_all(STDOUT_FILENO, b" ");
+                io::print_decimal(STDOUT_FILENO, k as u64);
+                if answer.n != n {
+                    io::write_all(STDOUT_FILENO, b" to another result");
+                }
             }
+            _ => {}
         }
         k += 1;
     }
@@ -151,16 +155,21 @@ fn print_answer(n: u64, number: u64, detail: u64, rows: &[u32], scratch: &[u32],
 fn show_result(file: &[u8], scratch: &mut [u32], row: &mut [u32], n: u64) -> u64 {
     let answer = ask_result(file, &mut *scratch, &mut *row, n);
     let rows = answer.rows;
-    print_answer(n, answer.number, answer.detail, &rows, &*scratch, &*row);
-    if answer.number == 0 {
-        print_ways_back(file, scratch, &rows, n);
-        return 0;
-    }
-    print_no_way_back(file, scratch);
-    if answer.number == 16 {
-        answer.detail
-    } else {
-        0
+    let number = answer.number;
+    print_answer(n, number, answer.detail, &rows, &*scratch, &*row);
+    match number {
+        0 => {
+            print_ways_back(file, scratch, &rows, n);
+            0
+        }
+        16 => {
+            print_no_way_back(file, scratch);
+            answer.detail
+        }
+        _ => {
+            print_no_way_back(file, scratch);
+            0
+        }
     }
 }
 

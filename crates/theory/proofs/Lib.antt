@@ -20,6 +20,7 @@ pub mod Misplaced
 pub mod Permutations
 pub mod Attributes
 pub mod JoinTrees
+pub mod Cheapest
 pub mod Mending
 pub mod Mendable
 pub mod Topmost
@@ -35,6 +36,7 @@ pub mod Forests
 pub mod FoundPlans
 pub mod Eliminating
 pub mod LastRoots
+pub mod Children
 pub mod Choices
 pub mod RowsByTable
 pub mod ResultNumbers
@@ -50,6 +52,7 @@ pub mod RowProducts
 pub mod Engines
 pub mod Access
 pub mod Retired
+pub mod Buffers
 pub mod Bags
 pub mod MendedBags
 pub mod FileBags

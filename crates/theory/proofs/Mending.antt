@@ -19,41 +19,10 @@ use Rattle.theory.proofs.Lists.{Each-map, Each-with, Each-filter, each,
 use Rattle.theory.proofs.Numbers.{from-at}
 use Rattle.semantics.specs.JoinTrees.{namesTable, depth, hangUnder}
 use Rattle.semantics.specs.Mending.{firstLeast, cheapest, holdsAll, holders, topmost, hang, chosen, cost, rightRoot, leftRoot, treeFor, mendedRoot, mend, penalty, bothHold}
-use Rattle.theory.specs.Selections.{Selection, only, rootLeft, rootRight, selectionPenalty, selectionTree, Mendable}
+use Rattle.theory.specs.Selections.{FirstCheapest, Selection, only, rootLeft, rootRight, selectionPenalty, selectionTree, ChoosesFirst, Mendable}
+use Rattle.theory.proofs.Cheapest.{cheapest-each, cheapest-least, cheapest-zero, cheapest-ties}
 use Rattle.theory.proofs.Permutations.{permutation-sum, permutation-any, permutation-each}
 use Rattle.theory.proofs.JoinTrees.{hang-leftmost, hang-tables, names-leftmost, holds-permutation, hang-wellBehaved}
-
--- ---- the cheapest
-firstLeast-each : (P : ℕ → Type 0) (f : ℕ → ℕ) (x : ℕ) (ys : List ℕ) → P x → Each P ys → P (firstLeast f x ys)
-firstLeast-each P f x [] p e = p
-firstLeast-each P f x (y ∷ ys) p e =
-    cases (ltb (f y) (f x)) (λ h. rw (h, firstLeast) (firstLeast-each P f y ys (e .0) (e .1))) (λ h. rw (h, firstLeast) (firstLeast-each P f x ys p (e .1)))
-
--- it is one of the tables
-pub cheapest-each : (P : ℕ → Type 0) (f : ℕ → ℕ) (xs : List ℕ) → nonEmpty xs ≡ true → Each P xs → P (cheapest f xs)
-cheapest-each P f [] n e = let z : _≡_ {A = ℕ} 0 1 = cc in absurd (omega arith)
-cheapest-each P f (x ∷ xs) n e = firstLeast-each P f x xs (e .0) (e .1)
-
-firstLeast-least : (f : ℕ → ℕ) (x : ℕ) (ys : List ℕ) → (f (firstLeast f x ys) ≤ f x) × Each (λ y. f (firstLeast f x ys) ≤ f y) ys
-firstLeast-least f x [] = (omega arith, tt)
-firstLeast-least f x (y ∷ ys) =
-    cases (ltb (f y) (f x))
-    (λ h. let (a, b) = firstLeast-least f y ys in let g : f y < f x = ltb-true (f y) (f x) h in rw (h, firstLeast) (omega arith, (a, b)))
-    (λ h. let (a, b) = firstLeast-least f x ys in let g : f x ≤ f y = ltb-false (f y) (f x) h in rw (h, firstLeast) (a, (omega arith, b)))
-
--- and none is cheaper
-pub cheapest-least : (f : ℕ → ℕ) (xs : List ℕ) → Each (λ y. f (cheapest f xs) ≤ f y) xs
-cheapest-least f [] = tt
-cheapest-least f (x ∷ xs) = firstLeast-least f x xs
-
--- "ties go to the first named": the first table is chosen where none is cheaper
-pub cheapest-first : (f : ℕ → ℕ) (x : ℕ) (xs : List ℕ) → Each (λ y. f x ≤ f y) xs → cheapest f (x ∷ xs) ≡ x
-cheapest-first f x [] e = refl
-cheapest-first f x (y ∷ ys) e =
-    cases (ltb (f y) (f x)) (λ h. let g : f x ≤ f y = e .0 in absurd (omega (arith, ltb-true (f y) (f x) h))) (λ h. rw (h, firstLeast) (cheapest-first f x ys (e .1)))
-
-cheapest-zero : (f : ℕ → ℕ) (x : ℕ) (xs : List ℕ) → f x ≡ 0 → cheapest f (x ∷ xs) ≡ x
-cheapest-zero f x xs z = cheapest-first f x xs (each (λ y. f x ≤ f y) (λ y. omega arith) xs)
 
 -- ---- tables that a plan names
 pub each-named : (ts : List ℕ) → Each (λ x. any (eqb x) ts ≡ true) ts
@@ -317,14 +286,24 @@ module _ (S : Shape) where
   unfolding penalty mendedRoot
   mend-least p x o s = omega (arith, cost-least o s, each-at (λ y. cost S p (cheapest (cost S p) (tables p)) ≤ cost S p y) x (tables p) (selection-named s) (cheapest-least (cost S p) (tables p)))
 
+  -- ---- all ties go to the first named, at the joins
+  rightRoot-ties : (l r : Plan) → bothHold S l r ≡ true → FirstCheapest (cost S r) (holders S (joinAttributes S l r) r) (rightRoot S l r)
+  unfolding rightRoot chosen
+  rightRoot-ties l r h = cheapest-ties (cost S r) (holders S (joinAttributes S l r) r) (right-holds l r h)
+
+  leftRoot-ties : (l r : Plan) → bothHold S l r ≡ true → FirstCheapest (λ t. cost S l t + S .rows t) (holders S (joinAttributes S l r) l) (leftRoot S l r)
+  unfolding leftRoot chosen
+  leftRoot-ties l r h = cheapest-ties (λ t. cost S l t + S .rows t) (holders S (joinAttributes S l r) l) (left-holds l r h)
+
   -- and it is that of a selection, whose tree the mended plan is
   pub record Chosen (p : Plan) (x : ℕ) : Type 0 where
     pub selection : Selection S p x
     pub costs : selectionPenalty S selection ≡ cost S p x
     pub builds : selectionTree S selection ≡ treeFor S p x
+    pub first : ChoosesFirst S selection
 
   pub cost-attained : (p : Plan) (x : ℕ) → Mendable S p → namesTable p x ≡ true → Chosen p x
-  cost-attained (scan t) x m n = subst (Chosen (scan t)) (or-cases (eqb x t) false n (λ h. sym (eqb-true x t h)) (λ h. cc)) (record { selection = only; costs = refl; builds = refl })
+  cost-attained (scan t) x m n = subst (Chosen (scan t)) (or-cases (eqb x t) false n (λ h. sym (eqb-true x t h)) (λ h. cc)) (record { selection = only; costs = refl; builds = refl; first = tt })
   cost-attained (join l r) x m n =
       cases (namesTable l x)
       (λ h. let (nb, hb) = rightRoot-holder l r (m .0) in let s = cost-attained l x (m .1) h in let u = cost-attained r (rightRoot S l r) (m .2) nb in
@@ -332,14 +311,24 @@ module _ (S : Shape) where
         selection = rootLeft (rightRoot S l r) hb (s .selection) (u .selection);
         costs = ap₂ (λ a b. a + b) (s .costs) (u .costs) ∙ sym (cost-left l r x h);
         builds = ap₂ (hang S (joinAttributes S l r)) (u .builds) (s .builds) ∙ sym (treeFor-left l r x h);
+        first = (rightRoot-ties l r (m .0), s .first, u .first);
       })
       (λ h. let (nb, hb) = leftRoot-holder l r (m .0) in let s = cost-attained r x (m .2) (not-left l r x h n) in let u = cost-attained l (leftRoot S l r) (m .1) nb in
       record {
         selection = rootRight (leftRoot S l r) hb (s .selection) (u .selection);
         costs = ap₂ (λ a b. a + (b + S .rows (leftRoot S l r))) (s .costs) (u .costs) ∙ sym (cost-right l r x h);
         builds = ap₂ (hang S (joinAttributes S l r)) (u .builds) (s .builds) ∙ sym (treeFor-right l r x h);
+        first = (leftRoot-ties l r (m .0), s .first, u .first);
       })
 
   pub mend-attained : (p : Plan) → Mendable S p → (s : Selection S p (mendedRoot S p)) × (selectionPenalty S s ≡ penalty S p) × (selectionTree S s ≡ mend S p)
   unfolding mend penalty
   mend-attained p m = let c = cost-attained p (mendedRoot S p) m (mendedRoot-named p) in (c .selection, c .costs, c .builds)
+
+  -- "the overall root is the cheapest table; all ties go to the first named": there, and in the selection whose tree the mended plan is
+  pub mend-ties : (p : Plan) → Mendable S p
+      → FirstCheapest (cost S p) (tables p) (mendedRoot S p) × ((s : Selection S p (mendedRoot S p)) × ChoosesFirst S s × (selectionTree S s ≡ mend S p))
+  unfolding mend
+  mend-ties p m =
+      let c = cost-attained p (mendedRoot S p) m (mendedRoot-named p) in
+      (unfold mendedRoot in cheapest-ties (cost S p) (tables p) (tables-nonEmpty p), (c .selection, c .first, c .builds))

@@ -1,7 +1,7 @@
 -- The answers 7, 8, 9 and 14 of a file, each with its detail, in the papers' words; and which plan a file within the rules has the join
 -- follow.
-use mathlib.Core.Path.{_≡_, sym, ap, _∙_}
-use mathlib.Core.List.{List}
+use mathlib.Core.Path.{_≡_, sym, ap, _∙_, subst}
+use mathlib.Core.List.{List, [], _∷_}
 use mathlib.Core.Logic.{_↔_}
 use Prim.Native.Nat.{ℕ, _+_, _≤_, _<_}
 use native.Mathlib.Omega.{arith}
@@ -13,6 +13,7 @@ use Rattle.semantics.specs.Plans.{Plan, tables, leftmost}
 use Rattle.semantics.specs.Shapes.{shapeOf}
 use Rattle.semantics.specs.Mending.{mend}
 use Rattle.theory.specs.Selections.{Mendable}
+use Rattle.theory.specs.Trees.{ChildrenRise}
 use Rattle.semantics.specs.Elimination.{Hanging, rooted, stuck, eliminate, planUnder}
 use Rattle.theory.specs.Details.{SpellsPlan, FirstMisplaced, FirstMisnamed, FirstLacking, WithoutPlan, NoneHangs, NoPlan, Followed, mended, found, ReadsPlan}
 use Rattle.theory.specs.Rules.{NamedOnce}
@@ -25,6 +26,7 @@ use Rattle.theory.proofs.FoundPlans.{elimination-cases, sums-named, roo
 use Rattle.theory.proofs.Eliminating.{stuck-exactly, rooted-exactly}
 use Rattle.theory.proofs.Forests.{planUnder-leftmost}
 use Rattle.theory.proofs.LastRoots.{root-last}
+use Rattle.theory.proofs.Children.{remains-rise}
 use Rattle.theory.proofs.Spelling.{encode-some}
 use Rattle.theory.proofs.Rules.{asks-plan, plan-asked, plan-sent, plan-found}
 use Rattle.theory.proofs.SentAnswers.{sent-seven, sent-eight, sent-nine, sent-within, sent-other}
@@ -135,6 +137,11 @@ found-last ts code p (mended s o m z) w = absurd (spells-plan ts code s w)
 found-last ts code p (found v x) w =
     let e = (rooted-exactly (shapeOf ts) (length ts) (x .root) (x .hung) (w .present)) .1 (x .remains) in
     omega (arith, root-last (shapeOf ts) (length ts) (x .root) (x .hung) (w .present) e, ap leftmost (x .is), planUnder-leftmost (x .hung) (x .root))
+
+-- "children stand in rising number" in it
+pub found-rising : (ts : List Table) (code : List ℕ) (p : Plan) → Followed ts code p → WithoutPlan ts code → ChildrenRise p
+found-rising ts code p (mended s o m z) w = absurd (spells-plan ts code s w)
+found-rising ts code p (found v x) w = subst ChildrenRise (x .is) (remains-rise (shapeOf ts) (length ts) (x .root ∷ []) (x .hung) (x .remains) (x .root))
 
 -- where no plan is found, none that is sent can be mended: each that names the tables once is a 9
 pub no-plan-unmendable : (ts : List Table) → NoPlan ts → (q : Plan) → NamedOnce (length ts) (tables q) → Mendable (shapeOf ts) q → ⊥

@@ -19,7 +19,8 @@ use Rattle.theory.proofs.Numbers.{from-lt}
 use Rattle.semantics.specs.JoinTrees.{namesTable, depth}
 use Rattle.semantics.specs.Mending.{cheapest, holdsAll, holders, topmost}
 use Rattle.theory.proofs.JoinTrees.{named-any, holds-named, behaves-within}
-use Rattle.theory.proofs.Mending.{cheapest-first, each-named, not-left, tables-first, depth-leftmost}
+use Rattle.theory.proofs.Cheapest.{cheapest-first}
+use Rattle.theory.proofs.Mending.{each-named, not-left, tables-first, depth-leftmost}
 
 head-each : (P : ℕ → Type 0) (xs : List ℕ) → nonEmpty xs ≡ true → Each P xs → P (headOf xs)
 head-each P [] n e = let z : _≡_ {A = ℕ} 0 1 = cc in absurd (omega arith)

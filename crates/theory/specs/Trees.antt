@@ -1,6 +1,8 @@
 -- Join trees written out: a table and its children in order. `semantics` keeps a tree as the plan that it gives.
+use mathlib.Core.List.{List, [], _∷_, _++_}
 use Prim.Native.Nat.{ℕ}
-use Rattle.semantics.specs.Plans.{Plan, scan, join}
+use Rattle.semantics.specs.Plans.{Plan, scan, join, leftmost}
+use Rattle.theory.specs.Elements.{Rising}
 
 mutual
   pub data JoinTree : Type 0 where
@@ -30,3 +32,13 @@ hungLast (node t cs) d = node t (childLast cs d)
 abbrev pub joinTreeOf : Plan → JoinTree
 joinTreeOf (scan t) = node t childless
 joinTreeOf (join l r) = hungLast (joinTreeOf l) (joinTreeOf r)
+
+-- the children of a plan's first-named table, in the order in which it joins their plans
+abbrev pub childrenOf : Plan → List ℕ
+childrenOf (scan t) = []
+childrenOf (join l r) = childrenOf l ++ (leftmost r ∷ [])
+
+-- request U4, "children stand in rising number": those of every table of the plan
+abbrev pub ChildrenRise : Plan → Type 0
+ChildrenRise (scan t) = Unit {0}
+ChildrenRise (join l r) = Rising (childrenOf (join l r)) × ChildrenRise l × ChildrenRise r

@@ -1,12 +1,11 @@
 use mathlib.Core.Path.{refl, sym, _∙_}
 use lib.ListN.{length-set}
 use lib.Seq.{length-take-le}
+use Rattle.mending.specs.Parts.{sizeAt}
 use Rattle.mending.proofs.Places.{starts, no-other}
 use Rattle.mending.proofs.Sides.{surveyed-bounds}
-use Rattle.mending.proofs.Trees.{buildable-planned, buildable-join, taken, own-buildable, own-later, other-later, taken-join, taken-mendable, other-buildable}
+use Rattle.mending.proofs.Trees.{buildable-planned, buildable-join, taken, own-buildable, taken-join, sides-smaller, taken-mendable, other-buildable}
 use Rattle.mending.proofs.TreeBytes.{sizes-fit, fits, hangable, taken-spelt, table-spelt}
-use Prim.Native.Nat.{_+_, _-_}
-use lib.ListN.{length}
 use borrow.Author.Needs.{needs}
 use native.Mathlib.Omega.{arith}
 use Prim.Native.Nat.{ℕ, _<_}
@@ -21,8 +20,9 @@ use Rattle.mending.proofs.rooting.best_root.Reads as best-root-reads
 use Rattle.mending.proofs.writing.+write_tree.{statement}
 use Rattle.mending.proofs.writing.+write_tree.Tie.{close}
 
+-- the size of the subplan falls
 abbrev μ-write-tree : Measures 7 write-tree-kinds.ps ℕ
-μ-write-tree κs a = length (a .0 .now) - a .1 .1 .1 .1 .1 .0
+μ-write-tree κs a = sizeAt (a .1 .1 .1 .0 .now) (a .1 .1 .1 .1 .1 .0)
 
 abbrev write-tree-at : ℕ → In 7 write-tree-kinds.ps
 write-tree-at t =
@@ -52,13 +52,13 @@ write-tree-split-for-requires : (t : ℕ) → write-tree-lts.Need-split-for-requ
 write-tree-split-for-requires t c κs = let b = surveyed-bounds (c .before .before .before .args .code .now) (c .before .before .before .args .masks .now) (c .before .before .before .args .ends .now) (c .before .before .before .args .sets .now) (c .before .before .before .args .at) (c .before .before .before .pre .1 .0 .surveyed) (buildable-join (c .match .keys1) (c .before .before .before .pre .1 .2)) in omega (arith, b, c .before .before .before .pre .1 .0 .short)
 
 write-tree-write-tree-requires : (t : ℕ) → write-tree-lts.Need-write-tree-requires (write-tree-claims t) (write-tree-at t) write-tree.Post
-write-tree-write-tree-requires t c κs = let x = taken (c .before .before .before .match .keys1) (c .before .before .before .before .before .before .pre .1 .0 .distinct) (c .before .before .before .before .before .before .pre .1 .2) (c .before .before .split-for .ensures _ _ (c .before .before .before .before .before .before .pre .1 .0 .surveyed)) in (omega (arith, own-later x (c .before .before .before .before .before .before .pre .1 .2 .table), c .before .before .before .before .before .before .pre .0), (c .before .before .before .before .before .before .pre .1 .0, c .before .before .before .before .before .before .pre .1 .1, own-buildable x (c .before .before .before .before .before .before .pre .1 .2 .table), refl))
+write-tree-write-tree-requires t c κs = let x = taken (c .before .before .before .match .keys1) (c .before .before .before .before .before .before .pre .1 .0 .distinct) (c .before .before .before .before .before .before .pre .1 .2) (c .before .before .split-for .ensures _ _ (c .before .before .before .before .before .before .pre .1 .0 .surveyed)) in (omega (arith, sides-smaller x (c .before .before .before .before .before .before .pre .1 .2 .table) (c .before .before .before .match .keys1) (c .before .before .before .before .before .before .pre .1 .0), c .before .before .before .before .before .before .pre .0), (c .before .before .before .before .before .before .pre .1 .0, c .before .before .before .before .before .before .pre .1 .1, own-buildable x (c .before .before .before .before .before .before .pre .1 .2 .table), refl))
 
 write-tree-best-root-requires : (t : ℕ) → write-tree-lts.Need-best-root-requires (write-tree-claims t) (write-tree-at t) write-tree.Post
 write-tree-best-root-requires t c κs = let x = taken (c .before .before .before .before .before .match .keys1) (c .before .before .before .before .before .before .before .before .pre .1 .0 .distinct) (c .before .before .before .before .before .before .before .before .pre .1 .2) (c .before .before .before .before .split-for .ensures _ _ (c .before .before .before .before .before .before .before .before .pre .1 .0 .surveyed)) in (c .before .before .before .before .before .before .before .before .pre .1 .0, c .before .write-tree .ensures .0, taken-join x (c .before .before .before .before .before .before .before .before .pre .1 .2 .table) (c .before .before .before .before .before .match .keys1), taken-mendable x (c .before .before .before .before .before .before .before .before .pre .1 .2 .table))
 
 write-tree-write-tree-requires-2 : (t : ℕ) → write-tree-lts.Need-write-tree-requires-2 (write-tree-claims t) (write-tree-at t) write-tree.Post
-write-tree-write-tree-requires-2 t c κs = let x = taken (c .before .before .before .before .before .before .before .before .match .keys1) (c .before .before .before .before .before .before .before .before .before .before .before .pre .1 .0 .distinct) (c .before .before .before .before .before .before .before .before .before .before .before .pre .1 .2) (c .before .before .before .before .before .before .before .split-for .ensures _ _ (c .before .before .before .before .before .before .before .before .before .before .before .pre .1 .0 .surveyed)) in (omega (arith, other-later x (c .before .before .before .before .before .before .before .before .before .before .before .pre .1 .2 .table), c .before .before .before .before .before .before .before .before .before .before .before .pre .0), (c .before .before .before .before .before .before .before .before .before .before .before .pre .1 .0, c .before .before .best-root .ensures .0, other-buildable x (c .before .before .before .before .before .before .before .before .before .before .before .pre .1 .2 .table) (c .before .before .best-root .result) (c .before .before .best-root .ensures .1) (c .before .before .before .before .before .before .before .before .before .before .before .pre .1 .0 .distinct), refl))
+write-tree-write-tree-requires-2 t c κs = let x = taken (c .before .before .before .before .before .before .before .before .match .keys1) (c .before .before .before .before .before .before .before .before .before .before .before .pre .1 .0 .distinct) (c .before .before .before .before .before .before .before .before .before .before .before .pre .1 .2) (c .before .before .before .before .before .before .before .split-for .ensures _ _ (c .before .before .before .before .before .before .before .before .before .before .before .pre .1 .0 .surveyed)) in (omega (arith, sides-smaller x (c .before .before .before .before .before .before .before .before .before .before .before .pre .1 .2 .table) (c .before .before .before .before .before .before .before .before .match .keys1) (c .before .before .before .before .before .before .before .before .before .before .before .pre .1 .0), c .before .before .before .before .before .before .before .before .before .before .before .pre .0), (c .before .before .before .before .before .before .before .before .before .before .before .pre .1 .0, c .before .before .best-root .ensures .0, other-buildable x (c .before .before .before .before .before .before .before .before .before .before .before .pre .1 .2 .table) (c .before .before .best-root .result) (c .before .before .best-root .ensures .1) (c .before .before .before .before .before .before .before .before .before .before .before .pre .1 .0 .distinct), refl))
 
 write-tree-array-share-prefix-tree : (t : ℕ) → write-tree-lts.Need-array-share-prefix-tree (write-tree-claims t) (write-tree-at t) write-tree.Post
 write-tree-array-share-prefix-tree t c = let x = taken (c .before .before .before .before .before .before .before .before .before .match .keys1) (c .before .before .before .before .before .before .before .before .before .before .before .before .pre .1 .0 .distinct) (c .before .before .before .before .before .before .before .before .before .before .before .before .pre .1 .2) (c .before .before .before .before .before .before .before .before .split-for .ensures _ _ (c .before .before .before .before .before .before .before .before .before .before .before .before .pre .1 .0 .surveyed)) in omega (arith, sizes-fit _ _ _ _ _ _ x (c .before .before .before .before .before .before .before .before .before .before .before .before .pre .1 .2 .table) (c .before .before .before .before .before .before .before .before .before .before .before .before .pre .1 .0 .short), c .before .before .before .before .before .write-tree .ensures .1)

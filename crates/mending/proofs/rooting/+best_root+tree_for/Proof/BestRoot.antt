@@ -7,7 +7,7 @@ use mathlib.Core.Logic.{⊎-elim}
 use Rattle.mending.specs.Rooting.{RootsRemembered, SideSearched}
 use Rattle.mending.proofs.Sides.{surveyed-bounds}
 use Rattle.mending.proofs.Holders.{held-small}
-use Rattle.mending.proofs.Roots.{side-known, side-bounds, search-begun, search-passed, search-taken, search-done, sum-small, pick-fits, side-buildable, kept-more, kept-known}
+use Rattle.mending.proofs.Roots.{side-known, side-bounds, side-smaller, search-begun, search-passed, search-taken, search-done, sum-small, pick-fits, side-buildable, kept-more, kept-known}
 use Rattle.mending.proofs.rooting.best_root.Reads as best-root
 use Rattle.mending.proofs.rooting.+best_root+tree_for.Lts-best_root as best-root-lts
 use Rattle.mending.proofs.rooting.tree_for.Reads as tree-for
@@ -85,7 +85,7 @@ best-root-add-tree-for t c = omega (arith, side-bounds (side-known (c .before .b
 
 pub best-root-tree-for-requires : (t : ℕ) → best-root-lts.Need-tree-for-requires (best-root-claims t) (best-root-at t) best-root.Post best-root-Inv-loop best-root-μ-loop
 best-root-tree-for-requires t c κs = (
-  omega (arith, side-bounds (side-known (c .before .before .before .before .before .before .before .before .before .side-of .ensures) (c .before .before .before .before .before .before .before .before .before .before .before .pre .1)), c .before .before .before .before .before .before .before .before .before .before .before .pre .0),
+  omega (arith, side-smaller (side-known (c .before .before .before .before .before .before .before .before .before .side-of .ensures) (c .before .before .before .before .before .before .before .before .before .before .before .pre .1)) (c .before .before .before .before .before .before .before .before .before .before .before .pre .1 .0), c .before .before .before .before .before .before .before .before .before .before .before .pre .0),
   (c .before .before .before .before .before .before .before .before .before .before .before .pre .1 .0, c .before .before .before .before .before .loop .inv .0, side-buildable (side-known (c .before .before .before .before .before .before .before .before .before .side-of .ensures) (c .before .before .before .before .before .before .before .before .before .before .before .pre .1)) (c .before .before .before .before .before .before .before .before .before .before .before .pre .1 .3) (c .before .before .before .before .before .loop .n) (c .before .before .before .before .loop-test .taken) (sym (c .before .before .holds .ensures) ∙ c .before .if2 .taken)),
 )
 

@@ -3,7 +3,7 @@ use Prim.Native.Nat.{ℕ}
 use native.Mathlib.Omega.{arith}
 use Rattle.mending.proofs.Places.{starts}
 use Rattle.mending.proofs.Sides.{surveyed-bounds}
-use Rattle.mending.proofs.Trees.{buildable-planned, buildable-join, taken, own-buildable, own-later, taken-join, taken-mendable, taken-costs, pick-small, table-cost}
+use Rattle.mending.proofs.Trees.{buildable-planned, buildable-join, taken, own-buildable, taken-join, sides-smaller, taken-mendable, taken-costs, pick-small, table-cost}
 use Rattle.mending.proofs.rooting.best_root.Reads as best-root
 use Rattle.mending.proofs.rooting.tree_for.Reads as tree-for
 use Rattle.mending.proofs.rooting.+best_root+tree_for.Lts-tree_for as tree-for-lts
@@ -28,7 +28,7 @@ pub tree-for-split-for-requires : (t : ℕ) → tree-for-lts.Need-split-for-requ
 tree-for-split-for-requires t c κs = let b = surveyed-bounds (c .before .before .before .args .code .now) (c .before .before .before .args .masks .now) (c .before .before .before .args .ends .now) (c .before .before .before .args .sets .now) (c .before .before .before .args .at) (c .before .before .before .pre .1 .0 .surveyed) (buildable-join (c .match .keys1) (c .before .before .before .pre .1 .2)) in omega (arith, b, c .before .before .before .pre .1 .0 .short)
 
 pub tree-for-tree-for-requires : (t : ℕ) → tree-for-lts.Need-tree-for-requires (tree-for-claims t) (tree-for-at t) tree-for.Post
-tree-for-tree-for-requires t c κs = let x = taken (c .before .before .match .keys1) (c .before .before .before .before .before .pre .1 .0 .distinct) (c .before .before .before .before .before .pre .1 .2) (c .before .split-for .ensures _ _ (c .before .before .before .before .before .pre .1 .0 .surveyed)) in (omega (arith, own-later x (c .before .before .before .before .before .pre .1 .2 .table), c .before .before .before .before .before .pre .0), (c .before .before .before .before .before .pre .1 .0, c .before .before .before .before .before .pre .1 .1, own-buildable x (c .before .before .before .before .before .pre .1 .2 .table)))
+tree-for-tree-for-requires t c κs = let x = taken (c .before .before .match .keys1) (c .before .before .before .before .before .pre .1 .0 .distinct) (c .before .before .before .before .before .pre .1 .2) (c .before .split-for .ensures _ _ (c .before .before .before .before .before .pre .1 .0 .surveyed)) in (omega (arith, sides-smaller x (c .before .before .before .before .before .pre .1 .2 .table) (c .before .before .match .keys1) (c .before .before .before .before .before .pre .1 .0), c .before .before .before .before .before .pre .0), (c .before .before .before .before .before .pre .1 .0, c .before .before .before .before .before .pre .1 .1, own-buildable x (c .before .before .before .before .before .pre .1 .2 .table)))
 
 pub tree-for-best-root-requires : (t : ℕ) → tree-for-lts.Need-best-root-requires (tree-for-claims t) (tree-for-at t) tree-for.Post
 tree-for-best-root-requires t c κs = let x = taken (c .before .before .before .before .match .keys1) (c .before .before .before .before .before .before .before .pre .1 .0 .distinct) (c .before .before .before .before .before .before .before .pre .1 .2) (c .before .before .before .split-for .ensures _ _ (c .before .before .before .before .before .before .before .pre .1 .0 .surveyed)) in (omega (arith, c .before .before .before .before .before .before .before .pre .0), (c .before .before .before .before .before .before .before .pre .1 .0, c .before .tree-for .ensures .0, taken-join x (c .before .before .before .before .before .before .before .pre .1 .2 .table) (c .before .before .before .before .match .keys1), taken-mendable x (c .before .before .before .before .before .before .before .pre .1 .2 .table)))
