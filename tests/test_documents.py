@@ -81,21 +81,18 @@ class Faults(unittest.TestCase):
                     yield crate and crate[1], fault, cell
 
     def edits(self, crate, cell):
-        """The crate and the name of each edit in a cell. One without a crate is that of the section's crate, or of the
-        crate named before it."""
-        before = None
+        """The crate and the name of each edit in a cell. One without a crate is that of the section's crate."""
         for given, name in re.findall(r"(?:(\w+)/)?`(\w+)`", " ".join(self.NAMED.findall(cell))):
-            before = given or before
-            yield [given] if given else [crate, before], name
+            yield given or crate, name
 
     def test_edits(self):
         for crate, fault, cell in self.rows():
             with self.subTest(fault=fault):
                 edits = list(self.edits(crate, cell))
                 self.assertEqual(not edits, cell.endswith("; no edit"), "names an edit, or says: no edit")
-                for crates, name in edits:
-                    there = [c for c in crates if c and os.path.exists(path("crates", c, "must-fail", name + ".edit"))]
-                    self.assertTrue(there, "%s is no edit of %s" % (name, crates))
+                for crate, name in edits:
+                    there = os.path.exists(path("crates", crate or "", "must-fail", name + ".edit"))
+                    self.assertTrue(there, "%s is no edit of %s" % (name, crate))
 
     def test_counts(self):
         cells = [cell for _, _, cell in self.rows()]

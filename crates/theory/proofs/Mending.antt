@@ -1,13 +1,13 @@
 -- Request U2: the mended plan names the same tables, is well-behaved, is the plan itself where that is well-behaved, and its
--- penalty is the least over all selections.
+-- penalty is the least over all selections. At each choice of a root it takes the first named of the cheapest.
 use mathlib.Core.Path.{_≡_, refl, sym, ap, ap₂, _∙_, subst}
 use mathlib.Core.Bool.{Bool, true, false, _||_, not}
 use mathlib.Core.List.{List, [], _∷_, _++_}
 use Prim.Native.Nat.{ℕ, zero, suc, _+_, _≤_, _<_, zero-le}
 use native.Mathlib.Omega.{arith}
 use lib.ListN.{length, length-append}
-use lib.Dec.{eqb, ltb}
-use borrow.Author.Tests.{eqb-true, eq-eqb, ltb-true, ltb-false}
+use lib.Dec.{eqb}
+use borrow.Author.Tests.{eqb-true, eq-eqb}
 use Rattle.theory.specs.Elements.{oneIf, Each, Permutation, unchanged, exchanged, beside, through}
 use Rattle.semantics.specs.Lists.{any, all, sum, filter, nonEmpty, from, upTo}
 use Rattle.semantics.specs.Plans.{Plan, scan, join, tables, leftmost}
@@ -15,10 +15,10 @@ use Rattle.semantics.specs.Shapes.{Shape, attributes, holds, shared, joinAttrib
 use Rattle.theory.specs.Rules.{behaves, WellBehaved}
 use Rattle.theory.specs.Details.{Once}
 use Rattle.theory.proofs.Cases.{cases, and-left, and-right, true-false, or-cases, or-left, or-right}
-use Rattle.theory.proofs.Lists.{Each-map, Each-with, Each-filter, each, filter-passes, all-true, all-filter, any-append, filter-append, length-filter-sum, all-and, nonEmpty-append, nonEmpty-filter}
+use Rattle.theory.proofs.Lists.{Each-map, Each-with, Each-filter, filter-passes, all-true, all-filter, any-append, filter-append, length-filter-sum, all-and, nonEmpty-append, nonEmpty-filter}
 use Rattle.theory.proofs.Numbers.{from-at}
 use Rattle.semantics.specs.JoinTrees.{namesTable, depth, hangUnder}
-use Rattle.semantics.specs.Mending.{firstLeast, cheapest, holdsAll, holders, topmost, hang, chosen, cost, rightRoot, leftRoot, treeFor, mendedRoot, mend, penalty, bothHold}
+use Rattle.semantics.specs.Mending.{cheapest, holdsAll, holders, topmost, hang, chosen, cost, rightRoot, leftRoot, treeFor, mendedRoot, mend, penalty, bothHold}
 use Rattle.theory.specs.Selections.{FirstCheapest, Selection, only, rootLeft, rootRight, selectionPenalty, selectionTree, ChoosesFirst, Mendable}
 use Rattle.theory.proofs.Cheapest.{cheapest-each, cheapest-least, cheapest-zero, cheapest-ties}
 use Rattle.theory.proofs.Permutations.{permutation-sum, permutation-any, permutation-each}
