@@ -1,5 +1,5 @@
 -- Request U4: the children of a table, in the plan that is found, are the tables that were hung under it, and stand in rising number.
-use mathlib.Core.Path.{_≡_, refl, sym, ap, ap₂, _∙_}
+use mathlib.Core.Path.{_≡_, refl, sym, ap, ap₂, _∙_, subst}
 use mathlib.Core.Bool.{Bool, true, false, _&&_, _||_}
 use mathlib.Core.List.{List, [], _∷_, _++_}
 use Prim.Native.Nat.{ℕ, _<_}
@@ -12,7 +12,7 @@ use Rattle.semantics.specs.Shapes.{Shape}
 use Rattle.semantics.specs.JoinTrees.{hangRising}
 use Rattle.semantics.specs.Elimination.{Hanging, planUnder}
 use Rattle.theory.specs.Elements.{Each, Rising, member}
-use Rattle.theory.specs.Trees.{childrenOf, ChildrenRise}
+use Rattle.theory.specs.Trees.{childrenOf, EachHung, UnderEach, HungRising}
 use Rattle.theory.specs.Details.{Remains, start, hung}
 use Rattle.theory.proofs.Cases.{cases}
 use Rattle.theory.proofs.Lists.{Each-map, Each-append, Each-split, any-append}
@@ -57,13 +57,6 @@ hung-rising c (join a b) d r =
     rw (k, hangRising) (rising-last (childrenOf (join a b)) (leftmost c) r
     (Each-append (λ x. x < leftmost c) (childrenOf a) (leftmost b ∷ []) (Each-map (λ x. x < leftmost b) (λ x. x < leftmost c) (λ x h. omega arith) (childrenOf a) below) (above, tt))))
 
-hung-rise : (c p : Plan) → Each (λ y. y ≡ leftmost c → ⊥) (childrenOf p) → ChildrenRise c → ChildrenRise p → ChildrenRise (hangRising c p)
-hung-rise c (scan t) d rc rp = ((tt, tt), tt, rc)
-hung-rise c (join a b) d rc rp =
-    let whole = hung-rising c (join a b) d (rp .0) in
-    let (others, last) = Each-split (λ y. y ≡ leftmost c → ⊥) (childrenOf a) (leftmost b ∷ []) d in
-    cases (ltb (leftmost c) (leftmost b)) (λ k. rw (k, hangRising) (rw (k, hangRising) at whole, hung-rise c a others rc (rp .1), rp .2)) (λ k. rw (k, hangRising) (rw (k, hangRising) at whole, rp, rc))
-
 -- ---- they are the tables that were hung
 child-hung : (c p : Plan) (x : ℕ) → member (childrenOf (hangRising c p)) x ≡ (eqb x (leftmost c) || member (childrenOf p) x)
 child-hung c (scan t) x = refl
@@ -94,24 +87,62 @@ children-exactly (h ∷ hs) t c =
     (λ q. rw (q, planUnder) (child-hung (planUnder hs (h .child)) (planUnder hs t) c ∙ ap₂ (λ u m. eqb c u || m) (planUnder-leftmost hs (h .child)) (children-exactly hs t c)))
     (λ q. rw (q, planUnder) (children-exactly hs t c))
 
--- ---- and they rise
-module _ (S : Shape) (n : ℕ) where
-  -- a child no longer remains
-  children-gone : (rs : List ℕ) (gs : List Hanging) → Remains S n rs gs → (t : ℕ) → Each (λ c. member rs c ≡ true → ⊥) (childrenOf (planUnder gs t))
-  children-gone rs gs start t = tt
-  children-gone rs gs (hung {rest} {hs} {h} m x) t =
-      let before : (u : ℕ) → Each (λ c. member rs c ≡ true → ⊥) (childrenOf (planUnder hs u))
-      = λ u. Each-map (λ c. member rest c ≡ true → ⊥) (λ c. member rs c ≡ true → ⊥) (λ c g k. g ((out-without (h .child) c rest k) .1)) (childrenOf (planUnder hs u)) (children-gone rest hs m u) in
-      decide t (h .parent)
-      (λ q. rw (q, at-parent h hs) (each-hung (λ c. member rs c ≡ true → ⊥) (planUnder hs (h .child)) (planUnder hs (h .parent))
-      (λ k. (out-without (h .child) (leftmost (planUnder hs (h .child))) rest k) .0 (planUnder-leftmost hs (h .child))) (before (h .parent))))
-      (λ d. rw (elsewhere h hs t d) (before t))
+-- ---- every plan that hangs in another
+hung-map : (P Q : Plan → Type 0) → ((r : Plan) → P r → Q r) → (p : Plan) → EachHung P p → EachHung Q p
+hung-map P Q f (scan t) e = tt
+hung-map P Q f (join l r) e = (hung-map P Q f l (e .0), f r (e .1), hung-map P Q f r (e .2))
 
-  pub remains-rise : (rs : List ℕ) (gs : List Hanging) → Remains S n rs gs → (t : ℕ) → ChildrenRise (planUnder gs t)
-  remains-rise rs gs start t = tt
-  remains-rise rs gs (hung {rest} {hs} {h} m x) t =
-      decide t (h .parent)
-      (λ q. rw (q, at-parent h hs) (hung-rise (planUnder hs (h .child)) (planUnder hs (h .parent))
-      (Each-map (λ c. member rest c ≡ true → ⊥) (λ y. y ≡ leftmost (planUnder hs (h .child)) → ⊥) (λ y g e. g (ap (member rest) (e ∙ planUnder-leftmost hs (h .child)) ∙ x .hangs .inside))
-      (childrenOf (planUnder hs (h .parent))) (children-gone rest hs m (h .parent))) (remains-rise rest hs m (h .child)) (remains-rise rest hs m (h .parent))))
-      (λ d. rw (elsewhere h hs t d) (remains-rise rest hs m t))
+one-more : (P : Plan → Type 0) (c p : Plan) → P c → EachHung P c → EachHung P p → EachHung P (hangRising c p)
+one-more P c (scan t) h k e = (tt, h, k)
+one-more P c (join a b) h k e =
+    cases (ltb (leftmost c) (leftmost b)) (λ q. rw (q, hangRising) (one-more P c a h k (e .0), e .1, e .2)) (λ q. rw (q, hangRising) (e, h, k))
+
+each-child : (P : ℕ → Type 0) (p : Plan) → EachHung (λ r. P (leftmost r)) p → Each P (childrenOf p)
+each-child P (scan t) e = tt
+each-child P (join l r) e = Each-append P (childrenOf l) (leftmost r ∷ []) (each-child P l (e .0)) (e .1, tt)
+
+-- ---- and they rise
+-- the plan r hangs under some table: it is all that hangs under its own first-named table, which no longer remains
+record Settled (gs : List Hanging) (rs : List ℕ) (r : Plan) : Type 0 where
+  pub is : r ≡ planUnder gs (leftmost r)
+  pub gone : member rs (leftmost r) ≡ true → ⊥
+
+module _ (S : Shape) (n : ℕ) where
+  all-settled : (rs : List ℕ) (gs : List Hanging) → Remains S n rs gs → (t : ℕ) → EachHung (Settled gs rs) (planUnder gs t)
+  all-settled rs gs start t = tt
+  all-settled rs gs (hung {rest} {hs} {h} m x) t =
+      let c = planUnder hs (h .child) in
+      let first : leftmost c ≡ h .child = planUnder-leftmost hs (h .child) in
+      let still : (u : ℕ) → EachHung (Settled gs rs) (planUnder hs u)
+      = λ u. hung-map (Settled hs rest) (Settled gs rs)
+      (λ r g. record {
+        is = g .is ∙ sym (elsewhere h hs (leftmost r) (λ q. g .gone (ap (member rest) q ∙ x .hangs .parent)));
+        gone = λ k. g .gone ((out-without (h .child) (leftmost r) rest k) .1);
+      })
+      (planUnder hs u) (all-settled rest hs m u) in
+      let new : Settled gs rs c
+      = record {
+        is = sym (ap (planUnder gs) first ∙ elsewhere h hs (h .child) (λ q. x .hangs .apart (sym q)));
+        gone = λ k. (out-without (h .child) (leftmost c) rest k) .0 first;
+      } in
+      decide t (h .parent) (λ q. rw (q, at-parent h hs) (one-more (Settled gs rs) c (planUnder hs (h .parent)) new (still (h .child)) (still (h .parent)))) (λ d. rw (elsewhere h hs t d) (still t))
+
+  all-rise : (rs : List ℕ) (gs : List Hanging) → Remains S n rs gs → (t : ℕ) → Rising (childrenOf (planUnder gs t))
+  all-rise rs gs start t = tt
+  all-rise rs gs (hung {rest} {hs} {h} m x) t =
+      let c = planUnder hs (h .child) in
+      let p = planUnder hs (h .parent) in
+      let other : Each (λ y. y ≡ leftmost c → ⊥) (childrenOf p)
+      = each-child (λ y. y ≡ leftmost c → ⊥) p (hung-map (Settled hs rest) (λ r. leftmost r ≡ leftmost c → ⊥)
+      (λ r g e. g .gone (ap (member rest) (e ∙ planUnder-leftmost hs (h .child)) ∙ x .hangs .inside)) p (all-settled rest hs m (h .parent))) in
+      decide t (h .parent) (λ q. rw (q, at-parent h hs) (hung-rising c p other (all-rise rest hs m (h .parent)))) (λ d. rw (elsewhere h hs t d) (all-rise rest hs m t))
+
+  -- the children of every table are the tables that were hung under it, and stand in rising number
+  pub remains-rise : (rs : List ℕ) (gs : List Hanging) → Remains S n rs gs → (t : ℕ) → UnderEach (HungRising gs) (planUnder gs t)
+  remains-rise rs gs m t =
+      let at : (u : ℕ) → HungRising gs (planUnder gs u)
+      = λ u. record {
+        hung = λ c. children-exactly gs u c ∙ ap (λ v. any (λ h. eqb v (h .parent) && eqb c (h .child)) gs) (sym (planUnder-leftmost gs u));
+        rising = all-rise rs gs m u;
+      } in
+      (at t, hung-map (Settled gs rs) (HungRising gs) (λ r g. subst (HungRising gs) (sym (g .is)) (at (leftmost r))) (planUnder gs t) (all-settled rs gs m t))

@@ -13,9 +13,9 @@ use Rattle.semantics.specs.Plans.{Plan, tables, leftmost}
 use Rattle.semantics.specs.Shapes.{shapeOf}
 use Rattle.semantics.specs.Mending.{mend}
 use Rattle.theory.specs.Selections.{Mendable}
-use Rattle.theory.specs.Trees.{ChildrenRise}
+use Rattle.theory.specs.Trees.{UnderEach, HungRising}
 use Rattle.semantics.specs.Elimination.{Hanging, rooted, stuck, eliminate, planUnder}
-use Rattle.theory.specs.Details.{SpellsPlan, FirstMisplaced, FirstMisnamed, FirstLacking, WithoutPlan, NoneHangs, NoPlan, Followed, mended, found, ReadsPlan}
+use Rattle.theory.specs.Details.{SpellsPlan, FirstMisplaced, FirstMisnamed, FirstLacking, WithoutPlan, NoneHangs, FoundPlan, NoPlan, Followed, mended, found, ReadsPlan}
 use Rattle.theory.specs.Rules.{NamedOnce}
 use Rattle.semantics.specs.Outcome.{Verdict, refused, admitted, sentVerdict, foundVerdict, asksForPlan, planVerdict, readVerdict, rulesVerdict}
 use Rattle.theory.proofs.Cases.{cases, true-false}
@@ -138,10 +138,10 @@ found-last ts code p (found v x) w =
     let e = (rooted-exactly (shapeOf ts) (length ts) (x .root) (x .hung) (w .present)) .1 (x .remains) in
     omega (arith, root-last (shapeOf ts) (length ts) (x .root) (x .hung) (w .present) e, ap leftmost (x .is), planUnder-leftmost (x .hung) (x .root))
 
--- "children stand in rising number" in it
-pub found-rising : (ts : List Table) (code : List ℕ) (p : Plan) → Followed ts code p → WithoutPlan ts code → ChildrenRise p
+-- under every table of it the "children stand in rising number", and are what was hung there
+pub found-rising : (ts : List Table) (code : List ℕ) (p : Plan) → Followed ts code p → WithoutPlan ts code → (x : FoundPlan (shapeOf ts) (length ts) p) × UnderEach (HungRising (x .hung)) p
 found-rising ts code p (mended s o m z) w = absurd (spells-plan ts code s w)
-found-rising ts code p (found v x) w = subst ChildrenRise (x .is) (remains-rise (shapeOf ts) (length ts) (x .root ∷ []) (x .hung) (x .remains) (x .root))
+found-rising ts code p (found v x) w = (x, subst (UnderEach (HungRising (x .hung))) (x .is) (remains-rise (shapeOf ts) (length ts) (x .root ∷ []) (x .hung) (x .remains) (x .root)))
 
 -- where no plan is found, none that is sent can be mended: each that names the tables once is a 9
 pub no-plan-unmendable : (ts : List Table) → NoPlan ts → (q : Plan) → NamedOnce (length ts) (tables q) → Mendable (shapeOf ts) q → ⊥

@@ -1,8 +1,14 @@
--- Join trees written out: a table and its children in order. `semantics` keeps a tree as the plan that it gives.
+-- Join trees written out: a table and its children in order. `semantics` keeps a tree as the plan that it gives. And the children in such
+-- a plan.
+use mathlib.Core.Path.{_≡_}
+use mathlib.Core.Bool.{_&&_}
 use mathlib.Core.List.{List, [], _∷_, _++_}
 use Prim.Native.Nat.{ℕ}
+use lib.Dec.{eqb}
+use Rattle.semantics.specs.Lists.{any}
 use Rattle.semantics.specs.Plans.{Plan, scan, join, leftmost}
-use Rattle.theory.specs.Elements.{Rising}
+use Rattle.semantics.specs.Elimination.{Hanging}
+use Rattle.theory.specs.Elements.{Rising, member}
 
 mutual
   pub data JoinTree : Type 0 where
@@ -38,7 +44,16 @@ abbrev pub childrenOf : Plan → List ℕ
 childrenOf (scan t) = []
 childrenOf (join l r) = childrenOf l ++ (leftmost r ∷ [])
 
--- request U4, "children stand in rising number": those of every table of the plan
-abbrev pub ChildrenRise : Plan → Type 0
-ChildrenRise (scan t) = Unit {0}
-ChildrenRise (join l r) = Rising (childrenOf (join l r)) × ChildrenRise l × ChildrenRise r
+-- every plan that hangs in the plan has the property: under its first-named table, and further below
+abbrev pub EachHung : (Plan → Type 0) → Plan → Type 0
+EachHung P (scan t) = Unit {0}
+EachHung P (join l r) = EachHung P l × P r × EachHung P r
+
+-- the plan under every table has the property: each table is the first named of the plan, or of one that hangs in it
+abbrev pub UnderEach : (Plan → Type 0) → Plan → Type 0
+UnderEach P p = P p × EachHung P p
+
+-- request U4: the children of the first-named table are the tables that were hung under it, and "stand in rising number"
+pub record HungRising (gs : List Hanging) (p : Plan) : Type 0 where
+  pub hung : (c : ℕ) → member (childrenOf p) c ≡ any (λ h. eqb (leftmost p) (h .parent) && eqb c (h .child)) gs
+  pub rising : Rising (childrenOf p)
