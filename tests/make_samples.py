@@ -52,6 +52,13 @@ def table(attributes, *rows):
     return record(sum(1 << a for a in attributes), len(rows), *zip(*rows))
 
 
+def counted(attributes, *rows):
+    """A table with a column of copies, these attributes, rising, and these rows, each with its copies first."""
+    assert list(attributes) == sorted(set(attributes))
+    assert all(len(row) == 1 + len(attributes) and BEFORE not in row for row in rows)
+    return b"TC" + record(sum(1 << a for a in attributes), len(rows), *zip(*rows))[2:]
+
+
 def plan(*code):
     return b"PL" + bytes([len(code)]) + bytes(code)
 
@@ -112,7 +119,7 @@ def cut_samples():
 
 def record_samples():
     sample("mark_first_byte_other", b"SB" + P1[2:])
-    sample("mark_second_byte_other", b"TC" + P1[2:])
+    sample("mark_second_byte_other", b"TD" + P1[2:])
     sample("mark_of_both_kinds_mixed", b"TL" + P1[2:])
     sample("mark_reversed", b"BT" + P1[2:])
     sample("mark_of_second_record_other", P1[:42] + b"tb" + P1[44:])
@@ -895,13 +902,67 @@ def result_samples():
     sample("result_of_3221225472", file([table((0,), *[(5,)] * 3), *equal[1:]], *left_deep(16)), 2000)
 
 
+# ---- copies
+def counted_samples():
+    frames = counted((0, 1), (1, 10, 1), (3, 11, 2), (2, 12, 2), (9, 13, 4))
+    exposures = counted((1, 2), (2, 1, 7), (5, 2, 8), (1, 2, 9), (4, 3, 7))
+    readings = counted((2, 3), (2, 7, 29510), (1, 9, 29530))
+    sample("counted_sample_file", file([frames, exposures, readings], FF, 0, FF, 1, 2))
+    sample("counted_sample_file_no_plan", file([frames, exposures, readings]))
+    sample("counted_sample_file_mended", file([frames, exposures, readings], FF, 0, FF, 2, 1))
+    sample("counted_first_table_alone", file([frames, EXPOSURES, READINGS], FF, 0, FF, 1, 2))
+    sample("counted_middle_table_alone", file([FRAMES, exposures, READINGS], FF, 0, FF, 1, 2))
+    sample("counted_last_table_alone", file([FRAMES, EXPOSURES, readings], FF, 0, FF, 1, 2))
+    one = [counted((0,), (1, 5), (1, 6)), counted((0, 1), (1, 5, 7), (1, 6, 8), (1, 5, 9))]
+    sample("counted_one_copy_each", file(one, FF, 0, 1))
+    rows = [counted((0,), (2, 5), (1, 6), (1, 5)), counted((0, 1), (1, 5, 7), (3, 6, 8), (2, 5, 7))]
+    sample("counted_rows_and_copies_in_order", file(rows, FF, 0, 1))
+    sample("counted_rows_and_copies_scratch_one_short", file(rows, FF, 0, 1), 62)
+    sample("counted_rows_and_copies_scratch_just_enough", file(rows, FF, 0, 1), 63)
+    sample("counted_rows_and_copies_output_one_short", file(rows, FF, 0, 1), 100, 23)
+    sample("counted_rows_and_copies_output_just_enough", file(rows, FF, 0, 1), 100, 24)
+    unrecorded = [counted((0, 1), (3, LARGEST, 1), (2, 7, LARGEST)), counted((0,), (4, LARGEST), (2, 7))]
+    sample("counted_not_recorded", file(unrecorded, FF, 0, 1))
+    sample("counted_no_rows", file([counted((0,)), counted((0, 1), (7, 5, 6))], FF, 0, 1))
+    sample("counted_no_rows_no_buffers", file([counted((0, 1))], 0), 0, 0)
+    wide = table(range(8), range(8))
+    sample("counted_attributes_eight", file([counted(range(8), (2, *range(8)), (1, *range(10, 18))), wide], FF, 0, 1))
+    # the holding limit, and what a row can have
+    most = counted((0,), (65535, 5))
+    sample("counted_65535_copies", file([most], 0))
+    sample("counted_65535_copies_four_times", file([most] * 4, *left_deep(4)))
+    sample("counted_65535_copies_five_times", file([most] * 5, *left_deep(5)))
+    thousand = counted((0,), (1024, 5))
+    sample("counted_1048576_choices", file([thousand, counted((0,), (1000, 5), (24, 6))], FF, 0, 1))
+    sample("counted_1048577_choices", file([counted((0,), (61681, 5)), counted((0,), (17, 5))], FF, 0, 1))
+    sample("counted_1049600_choices", file([thousand, counted((0,), (1000, 5), (25, 6))], FF, 0, 1))
+    sample("counted_too_many_pairs_and_no_rows", file([most, most, counted((0,))], FF, FF, 0, 1, 2))
+
+
+def copies_samples():
+    sample("copies_none", file([counted((0,), (0, 5))], 0))
+    sample("copies_none_in_the_last_row", file([ONE, counted((0,), (1, 5), (2, 6), (0, 7))], FF, 0, 1))
+    sample("copies_65536", file([counted((0,), (65536, 5))], 0))
+    sample("copies_largest", file([counted((0,), (LARGEST, 5))], 0))
+    sample("copies_out_of_range_before_the_next_fault", counted((0,), (0, 5)) + b"XX")
+    sample("copies_out_of_range_before_a_plan_that_is_none", counted((0,), (0, 5)) + plan(FF))
+    sample("copies_out_of_range_in_the_second_table", counted((0,), (1, 5)) + counted((0,), (0, 5)) + plan(0))
+    whole = counted((0, 1), (0, 5, 6), (1, 7, 8))
+    for name, at in (("mark", 2), ("fields", 10), ("copies", 17), ("first_column", 25), ("last_column", 33)):
+        sample("copies_out_of_range_cut_behind_" + name, whole[:at])
+    sample("copies_column_there_attribute_column_not", counted((0,), (1, 5), (2, 6))[:18])
+    sample("copies_of_4097_rows", b"TC" + record(1, 4097)[2:])
+    sample("copies_of_no_attributes", b"TC" + record(0, 1, [0])[2:])
+    sample("copies_of_a_17th_table", b"".join([ONE] * 16) + counted((0,), (0, 5)))
+
+
 def main():
     for make in (
         bench_samples, cut_samples, record_samples, plan_samples, buffer_samples, product_samples, sum_samples,
         limit_samples, unused_samples, key_samples, unrecorded_samples, row_samples, many_table_samples, tree_samples,
         mended_samples, mended_choice_samples, no_holder_samples, sixteen_samples, mended_tree_samples, found_samples,
         found_choice_samples, not_found_samples, sixteen_found_samples, found_tree_samples, slow_limit_samples,
-        slow_product_samples, slow_refusal_samples, result_samples,
+        slow_product_samples, slow_refusal_samples, result_samples, counted_samples, copies_samples,
     ):
         make()
     folder = os.path.join(TOP, "crates/samples/data")

@@ -9,11 +9,12 @@ use Rattle.capi_access.specs.declared.pigrozd_result_answer.{«pigrozd_r
 use Rattle.capi_access.specs.declared.pigrozd_number_answer.{«pigrozd_number_answer» as GivenNumber}
 use Rattle.capi_access.specs.Calls.{resultFrom, numberFrom, ResultCalls, NumberCalls}
 
-module _ {bytes s row s′ row′ t given t′ : List ℕ} {n : ℕ} {a : GivenResult} {b : GivenNumber} (A : ResultCalls bytes s row n s′ row′ a) (B : NumberCalls bytes t given t′ b) where
-  -- the row numbers that the first gave lead back to its number
-  pub there-and-back : a .number ≡ 0 → given ≡ take (tableCount bytes) (a .rows) → (b .number ≡ 10 → ⊥) → (b .number ≡ 0) × (b .n ≡ n)
-  there-and-back = outcome-back bytes s row t given n (resultFrom a s′ row′) (numberFrom b t′) (A .is) (B .is)
+module _ {bytes s row s′ row′ t rows copies t′ : List ℕ} {n : ℕ} {a : GivenResult} {b : GivenNumber} (A : ResultCalls bytes s row n s′ row′ a) (B : NumberCalls bytes t rows copies t′ b) where
+  -- the row numbers and copies that the first gave lead back to its number
+  pub there-and-back : a .number ≡ 0 → rows ≡ take (tableCount bytes) (a .rows) → copies ≡ take (tableCount bytes) (a .copies) → (b .number ≡ 10 → ⊥) → (b .number ≡ 0) × (b .n ≡ n)
+  there-and-back = outcome-back bytes s row t rows copies n (resultFrom a s′ row′) (numberFrom b t′) (A .is) (B .is)
 
-  -- the number that the second gave leads back to its row numbers
-  pub back-and-there : b .number ≡ 0 → n ≡ b .n → (a .number ≡ 10 → ⊥) → (a .number ≡ 18 → ⊥) → (a .number ≡ 0) × (a .rows ≡ given ++ replicate (16 - tableCount bytes) 0)
-  back-and-there = outcome-there bytes s row t given n (resultFrom a s′ row′) (numberFrom b t′) (A .is) (B .is)
+  -- the number that the second gave leads back to its row numbers and copies
+  pub back-and-there : b .number ≡ 0 → n ≡ b .n → (a .number ≡ 10 → ⊥) → (a .number ≡ 18 → ⊥)
+      → (a .number ≡ 0) × (a .rows ≡ rows ++ replicate (16 - tableCount bytes) 0) × (a .copies ≡ copies ++ replicate (16 - tableCount bytes) 0)
+  back-and-there = outcome-there bytes s row t rows copies n (resultFrom a s′ row′) (numberFrom b t′) (A .is) (B .is)

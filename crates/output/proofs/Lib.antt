@@ -5,3 +5,4 @@ pub mod Ranks
 pub mod PlacedAttributes
 pub mod OutputTables
 pub mod Tuples
+pub mod CopyTables

@@ -1,4 +1,5 @@
 pub mod OutputLists
 pub mod OutputColumns
+pub mod CopyColumns
 pub mod Placing
 pub mod Values

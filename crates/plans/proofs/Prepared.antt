@@ -11,16 +11,19 @@ use Rattle.semantics.specs.Shapes.{noTable, shapeOf, scratchNeed}
 use Rattle.semantics.specs.Outcome.{refused, admitted, verdict}
 use Rattle.theory.proofs.Lists.{Each-map, Each-of-map}
 use Rattle.theory.proofs.Reading.{tables-few, tables-fit}
+use Rattle.theory.proofs.Copies.{tables-counted}
 use Rattle.theory.proofs.Rules.{verdict-cases, rules-tables, verdict-within, verdict-rules, tables-count, rows-count}
 use Rattle.words.specs.Arrays.{padded}
 use Rattle.words.proofs.Arrays.{padded-length, padded-each}
 use Rattle.storage.specs.Layout.{storageSize, storage}
 use Rattle.storage.proofs.Sizes.{storage-le, storage-need}
 use Rattle.tables.specs.declared.Catalog.{Catalog}
-use Rattle.tables.specs.Catalogs.{catalogOf}
+use Rattle.tables.specs.Catalogs.{catalogOf, columnsOf}
+use Rattle.tables.specs.Copies.{countsOf, CopiesOf}
 use Rattle.tables.specs.PlanTables.{PlanTables}
 use Rattle.theory.proofs.Mendable.{small-each}
-use Rattle.tables.proofs.Catalogs.{mask-at, rows-at, start-at}
+use Rattle.tables.proofs.Catalogs.{mask-at, rows-at, start-at, counts-at}
+use Rattle.tables.proofs.CopyColumns.{copies-each}
 use Rattle.plans.specs.declared.admission.Verdict.the-variants as decision
 use Rattle.scheduling.specs.Schedules.{Schedule, rowCounts, turnsIn, placementsIn, scheduleWith, scheduleOf}
 use Rattle.plans.specs.Admissions.{verdictOf, scheduleFor, Decided, decidedOf, AdmittedAs, AdmittedOf}
@@ -54,7 +57,7 @@ field-length f xs h = padded-length (map f xs) (omega (arith, length-map xs f))
 
 sized-of : (ts : List Table) → length ts ≤ 16 → Sized (catalogOf ts)
 unfolding catalogOf
-sized-of ts few = record { masks = field-length (λ t. t .mask) ts few; rows = field-length (λ t. t .rows) ts few; starts = field-length (λ t. t .start) ts few }
+sized-of ts few = record { masks = field-length (λ t. t .mask) ts few; rows = field-length (λ t. t .rows) ts few; starts = field-length (λ t. t .start) ts few; counts = field-length countsOf ts few }
 
 -- ---- all of it
 module _ (bytes : List ℕ) (words : ℕ) (ts : List Table) (p : Plan) (v : verdict bytes words ≡ admitted ts p) where
@@ -99,8 +102,11 @@ module _ (bytes : List ℕ) (words : ℕ) (ts : List Table) (p : Plan) (v : verd
       (omega arith, Each-of-map (λ i. i < 16) (λ x. x .parent) R (Each-map (λ x. x .parent < 0 + length (tables p)) (λ x. x .parent < 16) (λ x h. omega (arith, named)) R (parents-below masks (rowCounts rows) p 0 0)))
       (omega arith)
 
-  table-at : (t : ℕ) → tableWith (getD masks t 0) (getD rows t 0) (getD (padded (map (λ t. t .start) ts)) t 0) ≡ getD ts t noTable
+  table-at : (t : ℕ) → tableWith (getD masks t 0) (getD rows t 0) (getD (padded (map (λ t. t .start) ts)) t 0) ≡ columnsOf (getD ts t noTable)
   table-at t = rw (mask-at ts t, rows-at ts t, start-at ts t)
+
+  copies-at : (t : ℕ) → CopiesOf bytes (getD (padded (map countsOf ts)) t 0) (getD ts t noTable)
+  copies-at t = rw (counts-at ts t) (copies-each ts (rw tables-are (tables-fit bytes)) (rw tables-are (tables-counted bytes)) t)
 
   prepared-of : Prepared bytes words (catalogOf ts) (scheduleOf masks (rowCounts rows) p) ts p
   unfolding catalogOf scheduleOf scheduleWith shapeOf
@@ -109,9 +115,11 @@ module _ (bytes : List ℕ) (words : ℕ) (ts : List Table) (p : Plan) (v : verd
         within = within;
         few = few;
         fits = rw tables-are (tables-fit bytes);
+        counted = rw tables-are (tables-counted bytes);
         masks = λ t a. ap (λ m. hasBit m a) (sym (mask-at ts t));
         rows = rows-of;
         table = table-at;
+        copies = copies-at;
         count = turns-length p 0;
         turns = refl;
         top = top-placed p (padded (turnsIn p 0)) (length (turnsIn p 0)) refl (turns-length p 0);
@@ -136,4 +144,4 @@ prepared bytes words c s ts p a = rw (a .catalog, a .schedule) (prepared-of byte
 pub plan-tables : {bytes : List ℕ} {words : ℕ} {c : Catalog} {s : Schedule} {ts : List Table} {p : Plan} → AdmittedAs bytes words c s ts p → PlanTables bytes c (s .order) (s .tables) ts p
 plan-tables A =
     let P = prepared _ _ _ _ _ _ A in
-    record { catalog-is = A .catalog; order-is = P .order; size = P .named; few = P .few; fitting = P .fits; rules = P .within }
+    record { catalog-is = A .catalog; order-is = P .order; size = P .named; few = P .few; fitting = P .fits; counted = P .counted; rules = P .within }

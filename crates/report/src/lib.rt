@@ -155,7 +155,7 @@ pub fn report(file: &[u8], scratch: &mut [u32], output: &mut [u32])
     let number = numbers.number;
     match number {
         0 => print_joined(file, output, numbers),
-        1..=11 | 14 => refuse(number, numbers.detail),
+        1..=11 | 14 | 19 => refuse(number, numbers.detail),
         _ => {
             io::write_all(1, b"no such answer\n");
         }

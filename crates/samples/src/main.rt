@@ -2,6 +2,8 @@
 // buffers hold afterwards; then results by their numbers, with the way back. A sample is a file of data/: two 4-byte numbers, the words
 // of scratch and of output to lend, and then the file to join. tests/make_samples.py writes the samples, the arguments and the output
 // expected.
+ghost use mathlib.Core.Path.{_≡_};
+ghost use lib.ListN.{length};
 use capi_access::pigrozd_result_answer;
 use libc::STDOUT_FILENO;
 
@@ -97,12 +99,14 @@ fn print_numbers(numbers: &[u32]) {
     }
 }
 
-// How many row numbers lead back to result number n: so many as there are tables, and no other number of them.
-fn print_ways_back(file: &[u8], scratch: &mut [u32], rows: &[u32], n: u64) {
+// How many row numbers and copies lead back to result number n: so many as there are tables, and no other number of them.
+fn print_ways_back(file: &[u8], scratch: &mut [u32], rows: &[u32], copies: &[u32], n: u64)
+    requires { ⌜ length (now rows) ≡ length (now copies) ⌝ }
+{
     io::write_all(STDOUT_FILENO, b", back by");
     let mut k = 0;
     while k <= rows.len() {
-        let answer = capi_access::pigrozd_number_of(file, scratch, &rows[..k]);
+        let answer = capi_access::pigrozd_number_of(file, scratch, &rows[..k], &copies[..k]);
         let number = answer.number;
         match number {
             0 => {
@@ -121,7 +125,7 @@ fn print_ways_back(file: &[u8], scratch: &mut [u32], rows: &[u32], n: u64) {
 
 // What the way back answers to no row numbers.
 fn print_no_way_back(file: &[u8], scratch: &mut [u32]) {
-    let answer = capi_access::pigrozd_number_of(file, scratch, &[]);
+    let answer = capi_access::pigrozd_number_of(file, scratch, &[], &[]);
     io::write_all(STDOUT_FILENO, b", back ");
     io::print_decimal(STDOUT_FILENO, answer.number);
     io::write_all(STDOUT_FILENO, b" ");
@@ -136,8 +140,16 @@ fn ask_result(file: &[u8], scratch: &mut [u32], row: &mut [u32], n: u64) -> pigr
     capi_access::pigrozd_result_at(file, scratch, n, row)
 }
 
-// The answer, its row numbers, and what the buffers hold then.
-fn print_answer(n: u64, number: u64, detail: u64, rows: &[u32], scratch: &[u32], row: &[u32]) {
+// The answer, its row numbers and copies, and what the buffers hold then.
+fn print_answer(
+    n: u64,
+    number: u64,
+    detail: u64,
+    rows: &[u32],
+    copies: &[u32],
+    scratch: &[u32],
+    row: &[u32],
+) {
     io::write_all(STDOUT_FILENO, b"result ");
     io::print_decimal(STDOUT_FILENO, n);
     io::write_all(STDOUT_FILENO, b": ");
@@ -146,6 +158,8 @@ fn print_answer(n: u64, number: u64, detail: u64, rows: &[u32], scratch: &[u32],
     io::print_decimal(STDOUT_FILENO, detail);
     io::write_all(STDOUT_FILENO, b", rows");
     print_numbers(rows);
+    io::write_all(STDOUT_FILENO, b", copies");
+    print_numbers(copies);
     io::write_all(STDOUT_FILENO, b", ");
     print_scratch(scratch);
     print_output(row);
@@ -155,11 +169,12 @@ fn print_answer(n: u64, number: u64, detail: u64, rows: &[u32], scratch: &[u32],
 fn show_result(file: &[u8], scratch: &mut [u32], row: &mut [u32], n: u64) -> u64 {
     let answer = ask_result(file, &mut *scratch, &mut *row, n);
     let rows = answer.rows;
+    let copies = answer.copies;
     let number = answer.number;
-    print_answer(n, number, answer.detail, &rows, &*scratch, &*row);
+    print_answer(n, number, answer.detail, &rows, &copies, &*scratch, &*row);
     match number {
         0 => {
-            print_ways_back(file, scratch, &rows, n);
+            print_ways_back(file, scratch, &rows, &copies, n);
             0
         }
         16 => {

@@ -1,10 +1,11 @@
--- Document 01, "The file": the records of a file, read in order, and the answers 1 to 6.
-use mathlib.Core.Bool.{Bool, true, false, _&&_, _||_}
+-- Document 01, "The file": the records of a file, read in order, and the answers 1 to 6. Document 02, request U9: tables whose rows have
+-- copies, and answer 19.
+use mathlib.Core.Bool.{Bool, true, false, _&&_, _||_, not}
 use mathlib.Core.List.{List, [], _∷_, _++_}
-use Prim.Native.Nat.{ℕ, zero, suc, _+_, _*_, _/_, _%_, _^_}
+use Prim.Native.Nat.{ℕ, zero, suc, _+_, _-_, _*_, _/_, _%_, _^_, min}
 use lib.ListN.{length, drop, getD}
 use lib.Dec.{eqb, ltb}
-use Rattle.semantics.specs.Lists.{sum, upTo}
+use Rattle.semantics.specs.Lists.{any, sum, upTo}
 
 -- the 4-byte number at an offset: little-endian
 unfoldable pub wordAt : List ℕ → ℕ → ℕ
@@ -29,12 +30,14 @@ arity m = onesBelow m 32
 pub record Table : Type 0 where
   pub mask : ℕ
   pub rows : ℕ
-  pub start : ℕ  -- offset of the first column
+  pub start : ℕ  -- offset of the first attribute column
+  pub counted : Bool  -- whether a column of copies stands before it
 
+-- a table without a column of copies
 abbrev pub tableWith : ℕ → ℕ → ℕ → Table
-tableWith mask rows start = record { mask = mask; rows = rows; start = start }
+tableWith mask rows start = record { mask = mask; rows = rows; start = start; counted = false }
 
--- the bytes of all columns of a table
+-- the bytes of all attribute columns of a table
 unfoldable pub columnBytes : ℕ → ℕ → ℕ
 columnBytes mask rows = 4 * (arity mask * rows)
 
@@ -46,10 +49,31 @@ columnStart t a = t .start + 4 * (onesBelow (t .mask) a * t .rows)
 unfoldable pub value : List ℕ → Table → ℕ → ℕ → ℕ
 value bytes t a y = wordAt (drop (columnStart t a) bytes) (4 * y)
 
+-- ---- copies
+-- "a table whose first column holds copies .. before the attribute columns": the bytes of that column, none where there is no such column
+unfoldable pub copyBytes : Bool → ℕ → ℕ
+copyBytes counted rows = elim counted [ true ↦ 4 * rows | false ↦ 0 ]
+
+-- the offset of the column of copies
+unfoldable pub copyStart : Table → ℕ
+copyStart t = t .start - copyBytes (t .counted) (t .rows)
+
+-- "copies, 1 to 65,535"
+abbrev pub mostCopies : ℕ
+mostCopies = 65535
+
+unfoldable pub copiesFit : ℕ → Bool
+copiesFit c = ltb 0 c && ltb c 65536
+
+-- the copies of a row: the word of that row in the column of copies, held at the most that a row can have; "one copy in a row of a 54 42
+-- table"
+unfoldable pub copiesAt : List ℕ → Table → ℕ → ℕ
+copiesAt bytes t y = elim (t .counted) [ true ↦ min (wordAt (drop (copyStart t) bytes) (4 * y)) mostCopies | false ↦ 1 ]
+
 -- ---- marks
 pub data Mark : Type 0 where
   cutMark : Mark  -- fewer than two bytes are left
-  tableMark : Mark
+  tableMark : Bool → Mark  -- a table, and whether it has a column of copies
   planMark : Mark
   otherMark : Mark
 
@@ -60,23 +84,36 @@ markOf left a b =
       | true ↦ cutMark
       | false ↦
           elim (eqb a 0x54 && eqb b 0x42) [
-            | true ↦ tableMark
+            | true ↦ tableMark false
             | false ↦
-                elim (eqb a 0x50 && eqb b 0x4C) [ true ↦ planMark | false ↦ otherMark ]
+                elim (eqb a 0x50 && eqb b 0x4C) [
+                  | true ↦ planMark
+                  | false ↦
+                      elim (eqb a 0x54 && eqb b 0x43) [ true ↦ tableMark true | false ↦ otherMark ]
+                ]
           ]
     ]
 
 abbrev pub nextMark : List ℕ → Mark
 nextMark l = markOf (length l) (getD l 0 0) (getD l 1 0)
 
--- ---- a table record, from its mark on: both fields there (1), 3, 4, columns there (1)
+-- ---- a table record, from its mark on: both fields there (1), 3, 4, columns there (1), copies in range (19)
 pub data TableRecord : Type 0 where
   broken : ℕ → TableRecord  -- the number due
   whole : Table → ℕ → TableRecord  -- the table, and the bytes of its record
 
--- the record at offset o, with that many bytes left from its mark on, that gives this mask and this row count
-unfoldable pub tableRecord : ℕ → ℕ → ℕ → ℕ → TableRecord
-tableRecord o left mask rows =
+-- "a copy count is out of range": that of some row, where there are copies
+unfoldable pub copiesOut : Bool → (ℕ → ℕ) → ℕ → Bool
+copiesOut counted copies rows = elim counted [ true ↦ any (λ y. not (copiesFit (copies y))) (upTo rows) | false ↦ false ]
+
+-- the bytes of a table record: mark, fields and columns
+unfoldable pub recordBytes : Bool → ℕ → ℕ → ℕ
+recordBytes counted mask rows = 10 + copyBytes counted rows + columnBytes mask rows
+
+-- the record at offset o, with that many bytes left from its mark on, that gives this mask and this row count; whether it has copies,
+-- and the number of them that it gives for a row
+unfoldable pub tableRecord : Bool → (ℕ → ℕ) → ℕ → ℕ → ℕ → ℕ → TableRecord
+tableRecord counted copies o left mask rows =
     elim (ltb left 10) [
       | true ↦ broken 1
       | false ↦
@@ -86,16 +123,22 @@ tableRecord o left mask rows =
                 elim (ltb 4096 rows) [
                   | true ↦ broken 4
                   | false ↦
-                      elim (ltb left (10 + columnBytes mask rows)) [
+                      elim (ltb left (recordBytes counted mask rows)) [
                         | true ↦ broken 1
-                        | false ↦ whole (tableWith mask rows (o + 10)) (10 + columnBytes mask rows)
+                        | false ↦
+                            elim (copiesOut counted copies rows) [
+                              | true ↦ broken 19
+                              | false ↦
+                                  whole (record { mask = mask; rows = rows; start = o + 10 + copyBytes counted rows; counted = counted })
+                                  (recordBytes counted mask rows)
+                            ]
                       ]
                 ]
           ]
     ]
 
-abbrev pub nextTable : ℕ → List ℕ → TableRecord
-nextTable o l = tableRecord o (length l) (wordAt l 2) (wordAt l 6)
+abbrev pub nextTable : Bool → ℕ → List ℕ → TableRecord
+nextTable counted o l = tableRecord counted (λ y. wordAt (drop 10 l) (4 * y)) o (length l) (wordAt l 2) (wordAt l 6)
 
 -- ---- how the reading ends
 pub data Ending : Type 0 where
@@ -128,15 +171,15 @@ readFrom zero o l ts =
     elim (nextMark l) [
       | cutMark ↦ record { tables = ts; ending = fault 1 o }
       | otherMark ↦ record { tables = ts; ending = fault 2 o }
-      | tableMark ↦ record { tables = ts; ending = fault 5 o }
+      | tableMark counted ↦ record { tables = ts; ending = fault 5 o }
       | planMark ↦ record { tables = ts; ending = planRecord o l }
     ]
 readFrom (suc k) o l ts =
     elim (nextMark l) [
       | cutMark ↦ record { tables = ts; ending = fault 1 o }
       | otherMark ↦ record { tables = ts; ending = fault 2 o }
-      | tableMark ↦
-          elim (nextTable o l) [
+      | tableMark counted ↦
+          elim (nextTable counted o l) [
             | broken n ↦ record { tables = ts; ending = fault n o }
             | whole t size ↦ readFrom k (o + size) (drop size l) (ts ++ (t ∷ []))
           ]

@@ -1,5 +1,7 @@
 pub mod PlanRecords
 pub mod TableRecords
+pub mod CountedTables
+pub mod CopyColumns
 pub mod Records
 pub mod Steps
 pub mod Catalogs

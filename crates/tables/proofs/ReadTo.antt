@@ -5,12 +5,13 @@ use Prim.Native.Nat.{ℕ, suc, _+_, _-_, _≤_, _<_}
 use native.Mathlib.Omega.{arith}
 use lib.ListN.{length, drop, replicate, length-append, length-drop}
 use lib.Seq.{drop-drop}
-use Rattle.semantics.specs.Files.{Table, tableWith, readFrom, read}
+use Rattle.semantics.specs.Files.{Table, readFrom, read}
 use Rattle.theory.proofs.Reading.{WholeRecord}
 use Rattle.tables.specs.declared.Catalog.{Catalog}
 use Rattle.tables.specs.declared.End.{End}
 use Rattle.tables.specs.declared.Record.{Record}
 use Rattle.tables.specs.declared.Record.the-variants as kind
+use Rattle.tables.specs.Copies.{countsOf}
 use Rattle.tables.specs.Catalogs.{catalogOf, endOf, recordOf, contentsOf}
 use Rattle.tables.proofs.Catalogs.{catalog-empty, catalog-count, withTable, catalog-more}
 use Rattle.tables.proofs.Steps.{Step, ends, goes-on, step}
@@ -22,16 +23,16 @@ pub record ReadTo (file : List ℕ) (at : ℕ) (catalog : Catalog) : Type 0 wher
   pub is : catalog ≡ catalogOf ts
   pub ahead : read file ≡ readFrom (16 - length ts) at (drop at file) ts
 
-pub begun : (file : List ℕ) → ReadTo file 0 (record { count = 0; masks = replicate 16 0; rows = replicate 16 0; starts = replicate 16 0 })
+pub begun : (file : List ℕ) → ReadTo file 0 (record { count = 0; masks = replicate 16 0; rows = replicate 16 0; starts = replicate 16 0; counts = replicate 16 0 })
 unfolding read
 begun file = record { within = omega arith; ts = []; few = omega arith; is = catalog-empty; ahead = refl }
 
 -- what a table taken at the offset gives
-pub record Taken (file : List ℕ) (at : ℕ) (catalog : Catalog) (m n size : ℕ) : Type 0 where
+pub record Taken (file : List ℕ) (at : ℕ) (catalog : Catalog) (m n start counts size : ℕ) : Type 0 where
   pub room : catalog .count < 16
   pub long : 10 ≤ size
   pub inside : at + size ≤ length file
-  pub again : ReadTo file (at + size) (withTable catalog (tableWith m n (at + 10)))
+  pub again : ReadTo file (at + size) (withTable catalog m n start counts)
 
 module _ (file : List ℕ) (at : ℕ) (catalog : Catalog) (r : ReadTo file at catalog) where
   count-is : catalog .count ≡ length (r .ts)
@@ -39,7 +40,7 @@ module _ (file : List ℕ) (at : ℕ) (catalog : Catalog) (r : ReadTo file at ca
 
   one-more : (t : Table) (size j : ℕ) → 16 - length (r .ts) ≡ suc j → WholeRecord at (length (drop at file)) t size
       → readFrom (16 - length (r .ts)) at (drop at file) (r .ts) ≡ readFrom j (at + size) (drop size (drop at file)) (r .ts ++ (t ∷ []))
-      → Taken file at catalog (t .mask) (t .rows) size
+      → Taken file at catalog (t .mask) (t .rows) (t .start) (countsOf t) size
   one-more t size j more w on =
       let few : length (r .ts) < 16 = omega arith in
       let inside : at + size ≤ length file = omega (arith, w .there, length-drop at file, r .within) in
@@ -52,7 +53,7 @@ module _ (file : List ℕ) (at : ℕ) (catalog : Catalog) (r : ReadTo file at ca
           within = inside;
           ts = r .ts ++ (t ∷ []);
           few = simp length-append (omega arith);
-          is = rw (r .is, ← w .starts) (catalog-more (r .ts) t few);
+          is = rw (r .is) (catalog-more (r .ts) t few);
           ahead = r .ahead ∙ on ∙ rw (left, drop-drop size at file);
         };
       }
@@ -77,8 +78,8 @@ module _ (file : List ℕ) (at : ℕ) (catalog : Catalog) (r : ReadTo file at ca
               absurd (omega arith)
         ]
 
-    pub at-table : (m n size : ℕ) → k ≡ kind.Table m n size → Taken file at catalog m n size
-    at-table m n size table =
+    pub at-table : (m n start counts size : ℕ) → k ≡ kind.Table m n start counts size → Taken file at catalog m n start counts size
+    at-table m n start counts size table =
         elim now [
           | ends g is on ↦
               let z : _≡_ {A = ℕ} 0 1 = cc of-ts in
@@ -87,5 +88,7 @@ module _ (file : List ℕ) (at : ℕ) (catalog : Catalog) (r : ReadTo file at ca
               let a : m ≡ t .mask = cc of-ts in
               let b : n ≡ t .rows = cc of-ts in
               let c : size ≡ s = cc of-ts in
-              rw (a, b, c) (one-more t s j more w on)
+              let d : start ≡ t .start = cc of-ts in
+              let e : counts ≡ countsOf t = cc of-ts in
+              rw (a, b, c, d, e) (one-more t s j more w on)
         ]

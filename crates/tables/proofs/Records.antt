@@ -13,7 +13,16 @@ use Rattle.tables.specs.declared.End.{End}
 use Rattle.tables.specs.declared.End.the-variants as end
 use Rattle.tables.specs.declared.Record.{Record}
 use Rattle.tables.specs.declared.Record.the-variants as kind
-use Rattle.tables.specs.Catalogs.{endOf, tableOf, recordOf}
+use Rattle.tables.specs.Catalogs.{endOf, tableOf, limitedTable, recordOf}
+
+-- ---- a table record after n tables
+pub limited-full : (n : ℕ) (f : Bool) (o : ℕ) (l : List ℕ) → 16 ≤ n → limitedTable n f o l ≡ kind.Last (end.Fault 5 o)
+unfolding limitedTable
+limited-full n f o l a = rw (limitedTable, le-leb 16 n a)
+
+pub limited-rules : (n : ℕ) (f : Bool) (o : ℕ) (l : List ℕ) → n < 16 → limitedTable n f o l ≡ tableOf o (nextTable f o l)
+unfolding limitedTable
+limited-rules n f o l a = rw (limitedTable, lt-leb 16 n a)
 
 -- ---- the record of each mark
 module _ (n size o : ℕ) (l : List ℕ) where
@@ -21,13 +30,9 @@ module _ (n size o : ℕ) (l : List ℕ) where
   unfolding recordOf
   of-cut m = rw (recordOf, m)
 
-  pub of-full : nextMark l ≡ tableMark → 16 ≤ n → recordOf n size o l ≡ kind.Last (end.Fault 5 o)
+  pub of-table : (f : Bool) → nextMark l ≡ tableMark f → recordOf n size o l ≡ limitedTable n f o l
   unfolding recordOf
-  of-full m a = rw (recordOf, m, le-leb 16 n a)
-
-  pub of-table : nextMark l ≡ tableMark → n < 16 → recordOf n size o l ≡ tableOf o (nextTable o l)
-  unfolding recordOf
-  of-table m a = rw (recordOf, m, lt-leb 16 n a)
+  of-table f m = rw (recordOf, m)
 
   pub of-plan : nextMark l ≡ planMark → recordOf n size o l ≡ kind.Last (endOf size (planRecord o l))
   unfolding recordOf
@@ -43,17 +48,22 @@ unfolding markOf
 mark-cut left a b h = rw (markOf, lt-ltb left 2 h)
 
 module _ (left a b : ℕ) (there : 2 ≤ left) where
-  mark-table : (eqb a 84 && eqb b 66) ≡ true → markOf left a b ≡ tableMark
+  mark-table : (eqb a 84 && eqb b 66) ≡ true → markOf left a b ≡ tableMark false
   unfolding markOf
   mark-table t = rw (markOf, le-ltb left 2 there, t)
 
-  mark-plan : (eqb a 84 && eqb b 66) ≡ false → (eqb a 80 && eqb b 76) ≡ true → markOf left a b ≡ planMark
-  unfolding markOf
-  mark-plan t p = rw (markOf, le-ltb left 2 there, t, p)
+  module _ (no : (eqb a 84 && eqb b 66) ≡ false) where
+    mark-plan : (eqb a 80 && eqb b 76) ≡ true → markOf left a b ≡ planMark
+    unfolding markOf
+    mark-plan p = rw (markOf, le-ltb left 2 there, no, p)
 
-  mark-other : (eqb a 84 && eqb b 66) ≡ false → (eqb a 80 && eqb b 76) ≡ false → markOf left a b ≡ otherMark
-  unfolding markOf
-  mark-other t p = rw (markOf, le-ltb left 2 there, t, p)
+    mark-counted : (eqb a 80 && eqb b 76) ≡ false → (eqb a 84 && eqb b 67) ≡ true → markOf left a b ≡ tableMark true
+    unfolding markOf
+    mark-counted p c = rw (markOf, le-ltb left 2 there, no, p, c)
+
+    mark-other : (eqb a 80 && eqb b 76) ≡ false → (eqb a 84 && eqb b 67) ≡ false → markOf left a b ≡ otherMark
+    unfolding markOf
+    mark-other p c = rw (markOf, le-ltb left 2 there, no, p, c)
 
 -- ---- over the file, after so many tables
 module _ (count : ℕ) (file : List ℕ) (at : ℕ) where
@@ -63,18 +73,20 @@ module _ (count : ℕ) (file : List ℕ) (at : ℕ) where
   pub record-cut : length file - at < 2 → kind.Last (end.Fault 1 at) ≡ recordOf count (length file) at (drop at file)
   record-cut a = sym (of-cut _ _ _ _ (next-mark ∙ mark-cut _ _ _ a))
 
-  -- t tells whether the mark is a table's
+  -- t tells whether the mark is that of a table without copies
   module _ (there : 2 ≤ length file - at) (t : Bool) (table : t ≡ (eqb (getD file at 0) 84 && eqb (getD file (at + 1) 0) 66)) where
-    pub record-full : t ≡ true → 16 ≤ count → kind.Last (end.Fault 5 at) ≡ recordOf count (length file) at (drop at file)
-    record-full is a = sym (of-full _ _ _ _ (next-mark ∙ mark-table _ _ _ there (sym table ∙ is)) a)
-
-    pub record-table : (r : Record) → t ≡ true → count < 16 → r ≡ tableOf at (nextTable at (drop at file)) → r ≡ recordOf count (length file) at (drop at file)
-    record-table r is a e = e ∙ sym (of-table _ _ _ _ (next-mark ∙ mark-table _ _ _ there (sym table ∙ is)) a)
+    pub record-table : (r : Record) → t ≡ true → r ≡ limitedTable count false at (drop at file) → r ≡ recordOf count (length file) at (drop at file)
+    record-table r is e = e ∙ sym (of-table _ _ _ _ false (next-mark ∙ mark-table _ _ _ there (sym table ∙ is)))
 
     -- p tells whether it is a plan's
     module _ (no : t ≡ false) (p : Bool) (plan : p ≡ (eqb (getD file at 0) 80 && eqb (getD file (at + 1) 0) 76)) where
       pub record-plan : (e : End) → p ≡ true → e ≡ endOf (length file) (planRecord at (drop at file)) → kind.Last e ≡ recordOf count (length file) at (drop at file)
       record-plan e is q = ap kind.Last q ∙ sym (of-plan _ _ _ _ (next-mark ∙ mark-plan _ _ _ there (sym table ∙ no) (sym plan ∙ is)))
 
-      pub record-other : p ≡ false → kind.Last (end.Fault 2 at) ≡ recordOf count (length file) at (drop at file)
-      record-other nor = sym (of-other _ _ _ _ (next-mark ∙ mark-other _ _ _ there (sym table ∙ no) (sym plan ∙ nor)))
+      -- c tells whether it is that of a table with copies
+      module _ (nor : p ≡ false) (c : Bool) (counted : c ≡ (eqb (getD file at 0) 84 && eqb (getD file (at + 1) 0) 67)) where
+        pub record-counted : (r : Record) → c ≡ true → r ≡ limitedTable count true at (drop at file) → r ≡ recordOf count (length file) at (drop at file)
+        record-counted r is e = e ∙ sym (of-table _ _ _ _ true (next-mark ∙ mark-counted _ _ _ there (sym table ∙ no) (sym plan ∙ nor) (sym counted ∙ is)))
+
+        pub record-other : c ≡ false → kind.Last (end.Fault 2 at) ≡ recordOf count (length file) at (drop at file)
+        record-other none = sym (of-other _ _ _ _ (next-mark ∙ mark-other _ _ _ there (sym table ∙ no) (sym plan ∙ nor) (sym counted ∙ none)))

@@ -1,6 +1,6 @@
 -- What the code gives for what `semantics` defines: the catalog of tables, the end of a reading, one record.
 use mathlib.Core.Path.{_≡_}
-use mathlib.Core.Bool.{true, false}
+use mathlib.Core.Bool.{Bool, true, false}
 use mathlib.Core.List.{List, map}
 use Prim.Native.Nat.{ℕ, _-_}
 use lib.ListN.{length, getD, take}
@@ -10,6 +10,7 @@ use Rattle.semantics.specs.Files.{Table, tableWith, hasBit, cutMark, tableMark,
 use Rattle.semantics.specs.Files.{nextTable, Ending, fault, planBytes, planRecord, read}
 use Rattle.semantics.specs.Shapes.{width}
 use Rattle.words.specs.Arrays.{padded}
+use Rattle.tables.specs.Copies.{countsOf}
 use Rattle.tables.specs.declared.Catalog.{Catalog}
 use Rattle.tables.specs.declared.Contents.{Contents}
 use Rattle.tables.specs.declared.End.{End}
@@ -24,6 +25,7 @@ catalogOf ts =
       masks = padded (map (λ t. t .mask) ts);
       rows = padded (map (λ t. t .rows) ts);
       starts = padded (map (λ t. t .start) ts);
+      counts = padded (map countsOf ts);
     }
 
 -- the plan's bytes are the last ones of a file of that many bytes
@@ -33,7 +35,11 @@ endOf size (planBytes code) = end.Plan (size - length code)
 
 abbrev pub tableOf : ℕ → TableRecord → Record
 tableOf o (broken n) = kind.Last (end.Fault n o)
-tableOf o (whole t size) = kind.Table (t .mask) (t .rows) size
+tableOf o (whole t size) = kind.Table (t .mask) (t .rows) (t .start) (countsOf t) size
+
+-- the table record at offset o, where the bytes l stand and n tables came before: 5, then the record's own rules
+unfoldable pub limitedTable : ℕ → Bool → ℕ → List ℕ → Record
+limitedTable n counted o l = elim (leb 16 n) [ true ↦ kind.Last (end.Fault 5 o) | false ↦ tableOf o (nextTable counted o l) ]
 
 -- the record at offset o of a file of that many bytes, where the bytes l stand and n tables came before
 unfoldable pub recordOf : ℕ → ℕ → ℕ → List ℕ → Record
@@ -41,15 +47,18 @@ recordOf n size o l =
     elim (nextMark l) [
       | cutMark ↦ kind.Last (end.Fault 1 o)
       | otherMark ↦ kind.Last (end.Fault 2 o)
-      | tableMark ↦
-          elim (leb 16 n) [ true ↦ kind.Last (end.Fault 5 o) | false ↦ tableOf o (nextTable o l) ]
+      | tableMark counted ↦ limitedTable n counted o l
       | planMark ↦ kind.Last (endOf size (planRecord o l))
     ]
 
 unfoldable pub contentsOf : List ℕ → Contents
 contentsOf bytes = record { catalog = catalogOf ((read bytes) .tables); end = endOf (length bytes) ((read bytes) .ending) }
 
--- the table that the catalog's arrays give for a number
+-- the attribute columns of a table, as a table without copies: it has the same values
+abbrev pub columnsOf : Table → Table
+columnsOf t = tableWith (t .mask) (t .rows) (t .start)
+
+-- the attribute columns that the catalog's arrays give for the number of a table
 abbrev pub tableAt : Catalog → ℕ → Table
 tableAt c t = tableWith (getD (c .masks) t 0) (getD (c .rows) t 0) (getD (c .starts) t 0)
 

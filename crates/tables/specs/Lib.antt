@@ -1,3 +1,5 @@
-pub mod Catalogs
 pub mod Cells
+pub mod Copies
+pub mod Records
+pub mod Catalogs
 pub mod PlanTables

@@ -1,20 +1,24 @@
-// The records of a file, read one after the other into a catalog: answers 1 to 6. Only `value` reads an attribute value.
+// The records of a file, read one after the other into a catalog: answers 1 to 6 and 19. Only `value` reads an attribute value.
 ghost use mathlib.Core.Path.{_≡_};
-ghost use mathlib.Core.Bool.{_&&_};
+ghost use mathlib.Core.Bool.{true, _&&_, not};
 ghost use Prim.Native.Nat.{_+_, _*_, _-_, _<_, _≤_, min};
 ghost use lib.ListN.{length, drop, getD};
 ghost use lib.Dec.{eqb};
-ghost use Rattle.semantics.specs.Files.{wordAt, tableWith, columnStart, nextTable, planRecord};
+ghost use Rattle.semantics.specs.Files.{wordAt, tableWith, columnStart, copyBytes, copiesOut, nextTable, planRecord};
 ghost use Rattle.semantics.specs.Shapes.{outputFits};
 ghost use Rattle.theory.specs.Rules.{Fitting};
-ghost use Rattle.tables.specs.Catalogs.{endOf, tableOf, recordOf, contentsOf, fileWidth, AttributesTogether};
+ghost use Rattle.tables.specs.Catalogs.{endOf, tableOf, limitedTable, recordOf, contentsOf, fileWidth, AttributesTogether};
+ghost use Rattle.tables.specs.Copies.{copiesIn, CopyInside};
+ghost use Rattle.tables.specs.Records.{countedRecord};
 
-// The tables of a file, in file order. The places past the last table are 0.
+// The tables of a file, in file order: `starts` has the offsets of their first attribute columns, `counts` those of their columns of
+// copies, 0 for a table that has none. The places past the last table are 0.
 pub struct Catalog {
     pub count: usize,
     pub masks: [u32; 16],
     pub rows: [usize; 16],
     pub starts: [usize; 16],
+    pub counts: [usize; 16],
 }
 
 // How the reading ends: a fault with its number and detail, or the plan, whose bytes run from this offset to the file's end.
@@ -29,10 +33,16 @@ pub struct Contents {
     pub end: End,
 }
 
-// One record: the reading ends there, or it is a table, with the bytes of its record.
+// One record: the reading ends there, or it is a table, with what the catalog holds of it and the bytes of its record.
 enum Record {
     Last(End),
-    Table { mask: u32, rows: usize, size: usize },
+    Table {
+        mask: u32,
+        rows: usize,
+        start: usize,
+        counts: usize,
+        size: usize,
+    },
 }
 
 // The two bytes at an offset are those of the mark.
@@ -63,10 +73,52 @@ fn plan_record(file: &[u8], at: usize) -> End
     End::Plan(at + 3)
 }
 
-// The table record whose mark stands at an offset: both fields there (1), 3, 4, columns there (1).
-fn table_record(file: &[u8], at: usize) -> Record
+// Every row of a column of copies has 1 to 65,535 of them.
+fn copies_fit(column: &[u8], rows: usize) -> bool
+    requires { ⌜ (rows ≤ 4096) × (4 * rows ≤ length (now column)) ⌝ }
+    ensures { λ r. ⌜ r ≡ not (copiesOut true (λ y. wordAt (now (column .entry)) (4 * y)) rows) ⌝ }
+{
+    let mut row = 0;
+    while row < rows {
+        let copies = words::word(column, 4 * row);
+        if copies == 0 || 65535 < copies {
+            return false;
+        }
+        row += 1;
+    }
+    true
+}
+
+// The table with copies whose mark stands at an offset and whose columns are there: copies in range (19).
+fn counted_table(file: &[u8], at: usize, mask: u32, rows: usize, size: usize) -> Record
+    requires { ⌜ (rows ≤ 4096) × (at + (10 + 4 * rows) ≤ length (now file)) ⌝ }
+    ensures { λ r. ⌜ r ≡ tableOf at (countedRecord at (drop at (now (file .entry))) mask rows size) ⌝ }
+{
+    let first = at + 10;
+    if copies_fit(&file[first..], rows) {
+        return Record::Table {
+            mask,
+            rows,
+            start: first + 4 * rows,
+            counts: first,
+            size,
+        };
+    }
+    Record::Last(End::Fault(19, at))
+}
+
+// The bytes of the column of copies of a table that has that many rows.
+fn copy_bytes(counted: bool, rows: usize) -> usize
+    requires { ⌜ rows ≤ 4096 ⌝ }
+    ensures { λ r. ⌜ r ≡ copyBytes counted rows ⌝ }
+{
+    if counted { 4 * rows } else { 0 }
+}
+
+// The table record whose mark stands at an offset: both fields there (1), 3, 4, columns there (1), copies in range (19).
+fn table_record(file: &[u8], at: usize, counted: bool) -> Record
     requires { ⌜ at + 2 ≤ length (now file) ⌝ }
-    ensures { λ r. ⌜ r ≡ tableOf at (nextTable at (drop at (now (file .entry)))) ⌝ }
+    ensures { λ r. ⌜ r ≡ tableOf at (nextTable counted at (drop at (now (file .entry)))) ⌝ }
 {
     let left = file.len() - at;
     if left < 10 {
@@ -81,14 +133,34 @@ fn table_record(file: &[u8], at: usize) -> Record
     if 4096 < rows {
         return Record::Last(End::Fault(4, at));
     }
-    let size = 10 + 4 * (arity * rows);
+    let size = 10 + copy_bytes(counted, rows) + 4 * (arity * rows);
     if left < size {
         return Record::Last(End::Fault(1, at));
     }
-    Record::Table { mask, rows, size }
+    if counted {
+        return counted_table(file, at, mask, rows, size);
+    }
+    Record::Table {
+        mask,
+        rows,
+        start: at + 10,
+        counts: 0,
+        size,
+    }
 }
 
-// The record at an offset, after that many tables: two bytes left (1), mark (2), 17th (5), then the record's own rules.
+// The table record whose mark stands at an offset, after that many tables: 17th (5), then the record's own rules.
+fn limited_table(file: &[u8], at: usize, count: usize, counted: bool) -> Record
+    requires { ⌜ at + 2 ≤ length (now file) ⌝ }
+    ensures { λ r. ⌜ r ≡ limitedTable count counted at (drop at (now (file .entry))) ⌝ }
+{
+    if 16 <= count {
+        return Record::Last(End::Fault(5, at));
+    }
+    table_record(file, at, counted)
+}
+
+// The record at an offset, after that many tables: two bytes left (1), mark (2), and then the record's own rules.
 fn next_record(file: &[u8], at: usize, count: usize) -> Record
     requires { ⌜ at ≤ length (now file) ⌝ }
     ensures { λ r. ⌜ r ≡ recordOf count (length (now (file .entry))) at (drop at (now (file .entry))) ⌝ }
@@ -97,13 +169,13 @@ fn next_record(file: &[u8], at: usize, count: usize) -> Record
         return Record::Last(End::Fault(1, at));
     }
     if marked(file, at, b"TB") {
-        if 16 <= count {
-            return Record::Last(End::Fault(5, at));
-        }
-        return table_record(file, at);
+        return limited_table(file, at, count, false);
     }
     if marked(file, at, b"PL") {
         return Record::Last(plan_record(file, at));
+    }
+    if marked(file, at, b"TC") {
+        return limited_table(file, at, count, true);
     }
     Record::Last(End::Fault(2, at))
 }
@@ -117,6 +189,7 @@ pub fn read(file: &[u8]) -> Contents
         masks: [0u32; 16],
         rows: [0usize; 16],
         starts: [0usize; 16],
+        counts: [0usize; 16],
     };
     let mut at = 0;
     loop {
@@ -126,10 +199,17 @@ pub fn read(file: &[u8]) -> Contents
             Record::Last(end) => {
                 return Contents { catalog, end };
             }
-            Record::Table { mask, rows, size } => {
+            Record::Table {
+                mask,
+                rows,
+                start,
+                counts,
+                size,
+            } => {
                 catalog.masks[n] = mask;
                 catalog.rows[n] = rows;
-                catalog.starts[n] = at + 10;
+                catalog.starts[n] = start;
+                catalog.counts[n] = counts;
                 catalog.count = n + 1;
                 at += size;
             }
@@ -191,4 +271,15 @@ pub fn value(column: &[u8], row: usize) -> u32
     ensures { λ r. ⌜ r ≡ wordAt (now (column .entry)) (4 * row) ⌝ }
 {
     words::word(column, 4 * row)
+}
+
+// The copies of a row of a table whose column of copies starts at that offset of the file, 0 for a table that has none.
+pub fn copies(file: &[u8], counts: usize, row: usize) -> u32
+    requires { ⌜ CopyInside (now file) counts row ⌝ }
+    ensures { λ r. ⌜ r ≡ copiesIn (now (file .entry)) counts row ⌝ }
+{
+    if counts == 0 {
+        return 1;
+    }
+    words::word(&file[counts..], 4 * row)
 }

@@ -8,13 +8,14 @@ use lib.ListN.{length, take, length-map}
 use lib.Dec.{eqb}
 use borrow.Author.Tests.{eqb-true}
 use Rattle.theory.specs.Elements.{Each}
-use Rattle.semantics.specs.Lists.{same, all, any, filter, consIf, nonEmpty, several, product, concatMap, upTo, headOf}
+use Rattle.semantics.specs.Lists.{same, all, any, filter, consIf, nonEmpty, several, sum, product, concatMap, upTo, headOf}
 use Rattle.semantics.specs.Plans.{Plan, scan, join, tables}
 use Rattle.semantics.specs.Shapes.{attributes, holds}
-use Rattle.semantics.specs.Results.{Base, Pick, pickOf, recorded, valuesAgree, choices, valuesIn, agrees, results, tuple}
+use Rattle.semantics.specs.Results.{Base, Pick, pickOf, recorded, valuesAgree, copiesOf, choices, valuesIn, agrees, results, tuple}
 use Rattle.semantics.specs.Bags.{rowHas, repeats, tupleOf, sharedRecorded, multiplicity}
 use Rattle.theory.proofs.Cases.{cases, and-right}
-use Rattle.theory.proofs.Lists.{each, Each-map, Each-with, Each-filter, filter-passes, same-refl, map-consIf, all-and, all-append, true-all, filter-map, filter-filter, filter-each, filter-false, nonEmpty-filter, product-append, count-pairs}
+use Rattle.theory.proofs.Lists.{each, Each-map, Each-with, Each-filter, Each-of-map, filter-onlyIf, filter-concatMap, concatMap-filter, length-concatMap, filter-passes, same-refl, map-consIf, all-and, all-append, true-all, filter-map, filter-filter, filter-each, filter-false, nonEmpty-filter, product-append, count-pairs}
+use Rattle.theory.proofs.Totals.{copies-length}
 use Rattle.theory.proofs.Choices.{choices-named}
 
 -- values that agree are equal, and recorded where there are several
@@ -90,10 +91,15 @@ module _ (D : Base) where
     count-choices : (p : Plan) → length (filter choiceHas (choices D p)) ≡ product (repeats D v) (tables p)
     unfolding repeats
     count-choices (scan t) =
-        ap length (filter-map choiceHas (pickOf t) (upTo (D .shape .rows t)))
-        ∙ length-map (filter (λ y. rowHas D v t y && true) (upTo (D .shape .rows t))) (pickOf t)
-        ∙ ap (λ q. length (filter q (upTo (D .shape .rows t)))) (fun-ext (λ y. and-true (rowHas D v t y)))
-        ∙ sym (mul-one (length (filter (rowHas D v t) (upTo (D .shape .rows t)))))
+        ap length
+        (filter-concatMap choiceHas (copiesOf D t) (upTo (D .shape .rows t))
+        ∙ ap (λ f. concatMap f (upTo (D .shape .rows t)))
+        (fun-ext (λ y. filter-onlyIf choiceHas (rowHas D v t y) (copiesOf D t y)
+        (Each-of-map (λ c. choiceHas c ≡ rowHas D v t y) (pickOf t y) (upTo (D .copies t y)) (each (λ c. (rowHas D v t y && true) ≡ rowHas D v t y) (λ c. and-true (rowHas D v t y)) (upTo (D .copies t y))))))
+        ∙ sym (concatMap-filter (rowHas D v t) (copiesOf D t) (upTo (D .shape .rows t))))
+        ∙ length-concatMap (copiesOf D t) (filter (rowHas D v t) (upTo (D .shape .rows t)))
+        ∙ ap (λ f. sum f (filter (rowHas D v t) (upTo (D .shape .rows t)))) (fun-ext (copies-length D t))
+        ∙ sym (mul-one (sum (D .copies t) (filter (rowHas D v t) (upTo (D .shape .rows t)))))
     count-choices (join l r) =
         count-pairs choiceHas choiceHas choiceHas (choices D l) (choices D r)
         (each (λ c. Each (λ e. choiceHas (c ++ e) ≡ (choiceHas c && choiceHas e)) (choices D r))

@@ -12,7 +12,7 @@ use Rattle.theory.specs.Elements.{Each}
 use Rattle.semantics.specs.Lists.{any, sum, from, upTo}
 use Rattle.semantics.specs.Plans.{Plan, scan, join, tables, leftmost}
 use Rattle.semantics.specs.Shapes.{joinAttributes, widestKey}
-use Rattle.semantics.specs.Results.{Base, rowNumbers, uses, results, participants, key, leftKey, rightKey, entered, walked}
+use Rattle.semantics.specs.Results.{Base, pairNumbers, uses, results, participants, key, leftKey, rightKey, entered, walked}
 use Rattle.theory.specs.Keys.{Words}
 use Rattle.semantics.specs.SearchTrees.{compared}
 use Rattle.semantics.specs.Counts.{visitsAfter, enteredKeys, soughtKeys, entries, lookups, comparisons, visits}
@@ -104,4 +104,4 @@ module _ (D : Base) where
         let n : ℕ = length (tables p) * rowsOf p in
         let h : s ≤ n = omega (arith, entered-le p, ap (λ k. k * rowsOf p) (joins-tables p), suc-mul (joins p) (rowsOf p)) in
         let m : (32 * a + 2) * s ≤ (32 * a + 2) * n = mul-le-mul-left (32 * a + 2) h in
-        omega (arith, comparisons-le a p (le-refl a), suc-mul (32 * a) s, add-mul (32 * a) 2 s, rw (length-map (results D p) rowNumbers) at (visits-le (length (tables p)) [] (map rowNumbers (results D p))), add-mul (length (tables p)) w (length (results D p)))
+        omega (arith, comparisons-le a p (le-refl a), suc-mul (32 * a) s, add-mul (32 * a) 2 s, rw (length-map (results D p) pairNumbers) at (visits-le (length (tables p)) [] (map pairNumbers (results D p))), add-mul (length (tables p)) w (length (results D p)))

@@ -2,6 +2,7 @@ pub mod Cases
 pub mod Lists
 pub mod Numbers
 pub mod Members
+pub mod Pairs
 pub mod SearchTrees
 pub mod KeyBits
 pub mod Agreement
@@ -11,7 +12,11 @@ pub mod Participants
 pub mod TakingPart
 pub mod Totals
 pub mod Enumeration
+pub mod CopyResults
 pub mod Steps
+pub mod NextPairs
+pub mod PairTotals
+pub mod PairOrders
 pub mod ResultBlocks
 pub mod ExactTotals
 pub mod Bound
@@ -41,10 +46,13 @@ pub mod Choices
 pub mod RowsByTable
 pub mod ResultNumbers
 pub mod Reading
+pub mod Copies
 pub mod Values
 pub mod Rules
+pub mod FileCopies
 pub mod SentAnswers
 pub mod PlanAnswers
+pub mod OutOfRange
 pub mod Output
 pub mod Answers
 pub mod ChoiceNumbers

@@ -20,6 +20,10 @@ length-from i (suc n) = ap suc (length-from (suc i) n)
 pub length-map-from : {B : Type 0} (f : ℕ → B) (i n : ℕ) → length (map f (from i n)) ≡ n
 length-map-from f i n = length-map (from i n) f ∙ length-from i n
 
+pub length-upTo : (n : ℕ) → length (upTo n) ≡ n
+unfolding upTo
+length-upTo n = length-from 0 n
+
 pub from-lt : (i n : ℕ) → Each (λ y. (i ≤ y) × (y < i + n)) (from i n)
 from-lt i zero = tt
 from-lt i (suc n) =
@@ -126,3 +130,11 @@ sum-at-most-one t i zero = omega arith
 sum-at-most-one t i (suc n) =
     cases (eqb t i) (λ e. rw e (omega (arith, sum-below t (suc i) n (omega (arith, eqb-true t i e)))))
     (λ e. rw e (omega (arith, sum-at-most-one t (suc i) n)))
+
+map-shift : {A : Type 0} (f : ℕ → A) (i n : ℕ) → map f (from (suc i) n) ≡ map (λ j. f (suc j)) (from i n)
+map-shift f i zero = refl
+map-shift f i (suc n) = ap (λ l. f (suc i) ∷ l) (map-shift f (suc i) n)
+
+pub map-getD : (xs : List ℕ) → map (λ t. getD xs t 0) (from 0 (length xs)) ≡ xs
+map-getD [] = refl
+map-getD (x ∷ xs) = ap (λ l. x ∷ l) (map-shift (λ t. getD (x ∷ xs) t 0) 0 (length xs) ∙ map-getD xs)

@@ -2,7 +2,7 @@
 -- follow.
 use mathlib.Core.Path.{_≡_, sym, ap, _∙_, subst}
 use mathlib.Core.List.{List, [], _∷_}
-use mathlib.Core.Logic.{_↔_}
+use mathlib.Core.Logic.{inl, inr, _↔_}
 use Prim.Native.Nat.{ℕ, _+_, _≤_, _<_}
 use native.Mathlib.Omega.{arith}
 use lib.ListN.{length}
@@ -16,7 +16,7 @@ use Rattle.theory.specs.Selections.{Mendable}
 use Rattle.theory.specs.Trees.{UnderEach, HungRising}
 use Rattle.semantics.specs.Elimination.{Hanging, rooted, stuck, eliminate, planUnder}
 use Rattle.theory.specs.Details.{SpellsPlan, FirstMisplaced, FirstMisnamed, FirstLacking, WithoutPlan, NoneHangs, FoundPlan, NoPlan, Followed, mended, found, ReadsPlan}
-use Rattle.theory.specs.Rules.{NamedOnce}
+use Rattle.theory.specs.Rules.{NamedOnce, ReadingNumber}
 use Rattle.semantics.specs.Outcome.{Verdict, refused, admitted, sentVerdict, foundVerdict, asksForPlan, planVerdict, readVerdict, rulesVerdict}
 use Rattle.theory.proofs.Cases.{cases, true-false}
 use Rattle.theory.proofs.Lists.{length-filter-sum}
@@ -155,7 +155,12 @@ no-plan-unmendable ts f q o m =
     } in
     f (mend S q) named (mend-wellBehaved S q m)
 
--- ---- of a file: past 6, the bytes of its plan decide
+-- ---- of a file: past 6 and 19, the bytes of its plan decide
+-- a number of the reading from 7 on is 19
+reading-late : (n : ℕ) → ReadingNumber n → 7 ≤ n → 19 ≤ n
+reading-late n (inl h) l = omega (arith, h .1)
+reading-late n (inr h) l = omega arith
+
 module _ (bytes : List ℕ) where
   abbrev ts : List Table
   ts = (read bytes) .tables
@@ -168,9 +173,9 @@ module _ (bytes : List ℕ) where
   unfolding rulesVerdict readVerdict
   rules-fault e = rw (e, readVerdict)
 
-  past-six : (v : Verdict) (X : List ℕ → Type 0) → ((n d : ℕ) → v ≡ refused n d → 7 ≤ n) → ((code : List ℕ) → (planVerdict ts code ≡ v) ↔ X code) → (rulesVerdict bytes ≡ v) ↔ ReadsPlan bytes X
+  past-six : (v : Verdict) (X : List ℕ → Type 0) → ((n d : ℕ) → v ≡ refused n d → (7 ≤ n) × (n ≤ 18)) → ((code : List ℕ) → (planVerdict ts code ≡ v) ↔ X code) → (rulesVerdict bytes ≡ v) ↔ ReadsPlan bytes X
   past-six v X h x = (
-    λ e. ending-cases ((read bytes) .ending) (λ n d f. absurd (omega (arith, (fault-number bytes n d f) .1, h n d (sym e ∙ rules-fault f))))
+    λ e. ending-cases ((read bytes) .ending) (λ n d f. let q = h n d (sym e ∙ rules-fault f) in absurd (omega (arith, reading-late n (fault-number bytes n d f) (q .0), q .1)))
         (λ code f. record { code = code; reads = f; has = (x code) .0 (sym (rules-plan f) ∙ e) }),
     λ r. rules-plan (r .reads) ∙ (x (r .code)) .1 (r .has),
   )

@@ -30,7 +30,7 @@ result-never-retired bytes s row n =
     (λ m d e. through-ten m (verdict-number bytes (length s) m d e) .3) (λ a e. omega (arith, e)) (λ d a e. omega (arith, e)) (λ d a e. omega (arith, e)) (λ N a b e. omega (arith, e))
 
 -- the number of a result
-pub number-never-retired : (bytes s given : List ℕ) → (numberOutcome bytes s given) .number ≡ retiredNumber → ⊥
-number-never-retired bytes s given =
-    number-cases bytes s given (λ r. r .number ≡ retiredNumber → ⊥)
+pub number-never-retired : (bytes s rows copies : List ℕ) → (numberOutcome bytes s rows copies) .number ≡ retiredNumber → ⊥
+number-never-retired bytes s rows copies =
+    number-cases bytes s rows copies (λ r. r .number ≡ retiredNumber → ⊥)
     (λ m d e. through-ten m (verdict-number bytes (length s) m d e) .3) (λ a e. omega (arith, e)) (λ a e. omega (arith, e)) (λ N a e. omega (arith, e))

@@ -17,7 +17,7 @@ use Rattle.semantics.specs.Mending.{mend, unmendable}
 use Rattle.semantics.specs.Elimination.{Hanging, rooted, eliminate, planUnder}
 use Rattle.theory.specs.Details.{WithoutPlan}
 use Rattle.semantics.specs.Outcome.{retiredNumber, Verdict, refused, admitted, sentVerdict, foundVerdict, asksForPlan, planVerdict, readVerdict, rulesVerdict, scratchVerdict, verdict}
-use Rattle.theory.specs.Rules.{BeforeTen, ThroughTen, WithinRules}
+use Rattle.theory.specs.Rules.{ReadingNumber, BeforeTen, ThroughTen, WithinRules}
 use Rattle.theory.proofs.Cases.{cases, option-cases, true-false}
 use Rattle.theory.proofs.Lists.{Each-map, sum-one, any-sum, length-filter-sum}
 use Rattle.theory.proofs.Numbers.{length-from, sum-shift}
@@ -103,14 +103,19 @@ plan-found ts code e = rw (e, planVerdict)
 plan-judged : (ts : List Table) (code : List ℕ) → length ts ≤ 16 → VerdictWithin BeforeTen ts (planVerdict ts code)
 plan-judged ts code few =
     cases (asksForPlan ts code)
-    (λ h. rw (plan-found ts code h) (widen (λ n. n ≡ 14) BeforeTen ts (λ n e. inr e) (foundVerdict ts) (found-judged ts ((asks-plan ts code h) .present) few)))
+    (λ h. rw (plan-found ts code h) (widen (λ n. n ≡ 14) BeforeTen ts (λ n e. inr (inl e)) (foundVerdict ts) (found-judged ts ((asks-plan ts code h) .present) few)))
     (λ h. rw (plan-sent ts code h) (widen (λ n. (7 ≤ n) × (n ≤ 9)) BeforeTen ts (λ n e. inl (omega (arith, e .0), e .1)) (sentVerdict ts code) (sent-judged ts code)))
+
+-- a fault of the reading comes before 10
+reading-early : (n : ℕ) → ReadingNumber n → BeforeTen n
+reading-early n (inl h) = inl (h .0, omega (arith, h .1))
+reading-early n (inr h) = inr (inr h)
 
 rules-judged : (bytes : List ℕ) → VerdictWithin BeforeTen ((read bytes) .tables) (rulesVerdict bytes)
 unfolding rulesVerdict readVerdict
 rules-judged bytes =
     ending-cases ((read bytes) .ending)
-    (λ n d e. let h : (1 ≤ n) × (n ≤ 6) = fault-number bytes n d e in rw (e, readVerdict) (inl (h .0, omega (arith, h .1))))
+    (λ n d e. rw (e, readVerdict) (reading-early n (fault-number bytes n d e)))
     (λ code e. rw (e, readVerdict) (plan-judged ((read bytes) .tables) code (tables-few bytes)))
 
 scratch-judged : (words : ℕ) (us : List Table) (v : Verdict) → VerdictWithin BeforeTen us v → VerdictWithin ThroughTen us (scratchVerdict words v)
@@ -138,11 +143,12 @@ rules-within bytes ts p e = (rw e at (rules-judged bytes)) .1
 pub verdict-number : (bytes : List ℕ) (words n d : ℕ) → verdict bytes words ≡ refused n d → ThroughTen n
 verdict-number bytes words n d e = rw e at (verdict-judged bytes words)
 
--- such a number is none of those that any call gives later, which are 0, 11 and those from 15 on, and not the retired one
-pub through-ten : (n : ℕ) → ThroughTen n → (1 ≤ n) × (n ≤ 14) × (n ≡ 11 → ⊥) × (n ≡ retiredNumber → ⊥)
-through-ten n (inl (inl h)) = (h .0, omega (arith, h .1), (λ e. omega (arith, h .1)), λ e. omega (arith, h .1))
-through-ten n (inl (inr h)) = (omega arith, omega arith, (λ e. omega arith), λ e. omega arith)
-through-ten n (inr h) = (omega arith, omega arith, (λ e. omega arith), λ e. omega arith)
+-- such a number is none of those that any call gives later, which are 0, 11 and 15 to 18, and not the retired one
+pub through-ten : (n : ℕ) → ThroughTen n → (1 ≤ n) × (15 ≤ n → 19 ≤ n) × (n ≡ 11 → ⊥) × (n ≡ retiredNumber → ⊥)
+through-ten n (inl (inl h)) = (h .0, (λ l. omega (arith, h .1)), (λ e. omega (arith, h .1)), λ e. omega (arith, h .1))
+through-ten n (inl (inr (inl h))) = (omega arith, (λ l. omega arith), (λ e. omega arith), λ e. omega arith)
+through-ten n (inl (inr (inr h))) = (omega arith, (λ l. omega arith), (λ e. omega arith), λ e. omega arith)
+through-ten n (inr h) = (omega arith, (λ l. omega arith), (λ e. omega arith), λ e. omega arith)
 
 pub verdict-within : (bytes : List ℕ) (words : ℕ) (ts : List Table) (p : Plan) → verdict bytes words ≡ admitted ts p → WithinRules ts p
 verdict-within bytes words ts p e = (rw e at (verdict-judged bytes words)) .1

@@ -1,16 +1,16 @@
 -- Words for the answers 7, 8, 9 and 14 and their details, without the recursions that decide them. That the two say the same is shown
 -- in `proofs/Misplaced.antt`, `proofs/Misnamed.antt`, `proofs/Lacking.antt`, `proofs/Eliminating.antt` and, for a whole file,
--- `proofs/PlanAnswers.antt`.
+-- `proofs/PlanAnswers.antt`. And what stands at the detail of 19 (`proofs/OutOfRange.antt`).
 use mathlib.Core.Path.{_≡_}
 use mathlib.Core.Bool.{Bool, true, false, _&&_, _||_, not}
 use mathlib.Core.List.{List, [], _∷_, _++_}
 use mathlib.Core.Logic.{_⊎_}
-use Prim.Native.Nat.{ℕ, suc, _+_, _≤_, _<_}
-use lib.ListN.{length, take, getD}
+use Prim.Native.Nat.{ℕ, suc, _+_, _*_, _≤_, _<_}
+use lib.ListN.{length, take, drop, getD}
 use lib.Dec.{eqb, ltb}
 use Rattle.theory.specs.Elements.{Each, member}
 use Rattle.semantics.specs.Lists.{any, filter, upTo}
-use Rattle.semantics.specs.Files.{Table, planBytes, read}
+use Rattle.semantics.specs.Files.{Table, wordAt, copiesFit, recordBytes, planBytes, read}
 use Rattle.semantics.specs.Plans.{Plan, join, encode, tables}
 use Rattle.theory.specs.Rules.{Small, NamedOnce, WellBehaved}
 use Rattle.semantics.specs.Shapes.{Shape, joinAttributes, shapeOf}
@@ -143,3 +143,13 @@ pub record ReadsPlan (bytes : List ℕ) (X : List ℕ → Type 0) : Type 0 where
   pub code : List ℕ
   pub reads : (read bytes) .ending ≡ planBytes code
   pub has : X code
+
+-- ---- 19
+-- the mark at offset d is that of a table with copies, its columns are there, and the copy count of one of its rows is out of range
+pub record OutOfRange (bytes : List ℕ) (d : ℕ) : Type 0 where
+  pub first : getD bytes d 0 ≡ 0x54
+  pub second : getD bytes (d + 1) 0 ≡ 0x43
+  pub there : d + recordBytes true (wordAt bytes (d + 2)) (wordAt bytes (d + 6)) ≤ length bytes
+  pub row : ℕ
+  pub low : row < wordAt bytes (d + 6)
+  pub out : copiesFit (wordAt (drop (d + 10) bytes) (4 * row)) ≡ false

@@ -4,6 +4,7 @@ pub mod AlikeFiles
 pub mod Keys
 pub mod Trees
 pub mod Selections
+pub mod Pairs
 pub mod Orders
 pub mod Rows
 pub mod Totals

@@ -8,10 +8,10 @@ use Rattle.samples.proofs.print_ways_back.Statement.{statement}
 use Rattle.samples.proofs.print_ways_back.Tie as tie
 
 abbrev Inv-loop : tie.InvT-loop
-Inv-loop file scratch₀ rows n k₀ t8 t9 t10 scratch k = length scratch ≡ length scratch₀
+Inv-loop file scratch₀ rows copies n k₀ t10 t11 t12 scratch k = length scratch ≡ length scratch₀
 
 abbrev μ-loop : tie.MeasureT-loop
-μ-loop file scratch₀ rows n k₀ t8 t9 t10 scratch k = length rows + 1 - k
+μ-loop file scratch₀ rows copies n k₀ t10 t11 t12 scratch k = length rows + 1 - k
 
 slice-aggregate-write-all : tie.Need-slice-aggregate-write-all Inv-loop μ-loop
 slice-aggregate-write-all c = search needs
@@ -23,7 +23,10 @@ loop-holds : tie.Need-loop-holds Inv-loop μ-loop
 loop-holds c = refl
 
 slice-aggregate-pigrozd-number-of : tie.Need-slice-aggregate-pigrozd-number-of Inv-loop μ-loop
-slice-aggregate-pigrozd-number-of c = sym (length-take-le (c .before .before .before .loop .k) (c .before .before .before .before .before .before .before .before .before .args .rows .now) (omega (arith, c .before .before .loop-test .taken)))
+slice-aggregate-pigrozd-number-of c = sym (length-take-le _ _ (omega (arith, c .before .before .loop-test .taken)))
+
+slice-aggregate-pigrozd-number-of-2 : tie.Need-slice-aggregate-pigrozd-number-of-2 Inv-loop μ-loop
+slice-aggregate-pigrozd-number-of-2 c = sym (length-take-le _ _ (omega (arith, c .before .before .before .loop-test .taken)))
 
 pigrozd-number-of-requires : tie.Need-pigrozd-number-of-requires Inv-loop μ-loop
 pigrozd-number-of-requires c κs = search needs
@@ -74,6 +77,7 @@ print-ways-back-spec =
     write-all-requires
     loop-holds
     slice-aggregate-pigrozd-number-of
+    slice-aggregate-pigrozd-number-of-2
     pigrozd-number-of-requires
     slice-aggregate-write-all-2
     write-all-requires-2

@@ -28,8 +28,8 @@ enum-known-record-2 : tie.Need-enum-known-record-2 Inv-loop μ-loop
 enum-known-record-2 c = search needs
 
 took : (c : tie.After-known-told2 Inv-loop μ-loop)
-    → Taken (c .before .before .before .before .before .before .args .file .now) (c .before .before .before .before .loop .at) (c .before .before .before .before .loop .catalog) (c .before .record2 .given .0 .0) (c .before .record2 .given .0 .1 .0) (c .before .record2 .given .0 .1 .1 .0)
-took c = at-table _ _ _ (c .before .before .before .before .loop .inv) _ (c .before .before .before .next-record .ensures) _ _ _ (c .before .record2 .given .1)
+    → Taken (c .before .before .before .before .before .before .args .file .now) (c .before .before .before .before .loop .at) (c .before .before .before .before .loop .catalog) (c .before .record2 .given .0 .0) (c .before .record2 .given .0 .1 .0) (c .before .record2 .given .0 .1 .1 .0) (c .before .record2 .given .0 .1 .1 .1 .0) (c .before .record2 .given .0 .1 .1 .1 .1 .0)
+took c = at-table _ _ _ (c .before .before .before .before .loop .inv) _ (c .before .before .before .next-record .ensures) _ _ _ _ _ (c .before .record2 .given .1)
 
 mul-catalog : tie.Need-mul-catalog Inv-loop μ-loop
 mul-catalog c = omega (arith, took c)
@@ -43,17 +43,20 @@ mul-catalog-2 c = omega (arith, took c)
 element-write-catalog-2 : tie.Need-element-write-catalog-2 Inv-loop μ-loop
 element-write-catalog-2 c = omega (arith, took c)
 
-add-catalog : tie.Need-add-catalog Inv-loop μ-loop
-add-catalog c = omega (arith, took c)
-
 mul-catalog-3 : tie.Need-mul-catalog-3 Inv-loop μ-loop
 mul-catalog-3 c = omega (arith, took c)
 
 element-write-catalog-3 : tie.Need-element-write-catalog-3 Inv-loop μ-loop
 element-write-catalog-3 c = omega (arith, took c)
 
-add-catalog-2 : tie.Need-add-catalog-2 Inv-loop μ-loop
-add-catalog-2 c = omega (arith, took c)
+mul-catalog-4 : tie.Need-mul-catalog-4 Inv-loop μ-loop
+mul-catalog-4 c = omega (arith, took c)
+
+element-write-catalog-4 : tie.Need-element-write-catalog-4 Inv-loop μ-loop
+element-write-catalog-4 c = omega (arith, took c)
+
+add-catalog : tie.Need-add-catalog Inv-loop μ-loop
+add-catalog c = omega (arith, took c)
 
 add-at : tie.Need-add-at Inv-loop μ-loop
 add-at c = omega (arith, took c)
@@ -79,10 +82,11 @@ read-spec =
     element-write-catalog
     mul-catalog-2
     element-write-catalog-2
-    add-catalog
     mul-catalog-3
     element-write-catalog-3
-    add-catalog-2
+    mul-catalog-4
+    element-write-catalog-4
+    add-catalog
     add-at
     loop-less
     loop-again)
