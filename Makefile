@@ -75,13 +75,14 @@ check-c: lib target/bin/pigrozd target/bin/accept
 
 # The Python package: the library through it, the slow engine beside the join, one result by its number and back, the totals that the
 # join forms and their multiplications, plans mended and found by the reference and by the package, tables and values, those that were
-# not recorded, the file format, pip. Then its commands, the viewer on a terminal among them. What needs NumPy or pandas is skipped, in
-# words, where they are not there; make check-users PYTHON=/usr/bin/python3 names another.
+# not recorded, rows with copies and tables that are folded, the file format, pip. Then its commands, the viewer on a terminal among
+# them. What needs NumPy or pandas is skipped, in words, where they are not there; make check-users PYTHON=/usr/bin/python3 names
+# another.
 PYTHON = python3
 
 check-python: lib
 	$(PYTHON) tests/run.py test_library test_slow test_access test_products test_mending test_mended_plans test_finding test_found_plans \
-	    test_python test_count test_not_recorded test_formats test_install
+	    test_python test_count test_counted test_not_recorded test_formats test_install
 
 check-commands: lib
 	$(PYTHON) tests/run.py test_commands test_join test_view test_damaged test_documents test_sources

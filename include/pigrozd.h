@@ -1,7 +1,8 @@
 /* Pigrozd: joins the tables of a file by its plan, or by one that it finds. For x86-64 Linux; numbers in a file are
  * little-endian. pigrozd_join is the join. pigrozd_slow_join, for acceptance days, goes through every choice of rows and gives
  * the same. pigrozd_result_at gives one result by its number, and pigrozd_number_of the number of a result by its rows and copies;
- * neither writes out the others.
+ * neither writes out the others. A program that was compiled before counted rows must be compiled again:
+ * pigrozd_result_answer and pigrozd_number_of have changed.
  *
  * What the caller owes:
  * - No pointer is NULL, also where the length beside it is 0.
@@ -86,7 +87,7 @@ enum pigrozd_number {
     PIGROZD_NO_SUCH_RESULT = 16,   /* n is not below the number of results; detail: number of results */
     PIGROZD_NOT_A_RESULT = 17,     /* the row numbers and copies are those of no result; detail: 0 */
     PIGROZD_ROW_SHORT = 18,        /* the row buffer is shorter than the values of a row; detail: values of a row */
-    PIGROZD_COPIES_RANGE = 19      /* a row of 0 copies, or of more than 65,535; detail: offset of its table's record */
+    PIGROZD_COPIES_RANGE = 19      /* a row of no copies, or of more than 65,535; detail: offset of its table's record */
 };
 
 /* The name that 9 had before plans were mended; a plan that is not well-behaved is no longer refused for that. */

@@ -5,6 +5,7 @@ import os
 import random
 import re
 import shutil
+import struct
 import subprocess
 import sys
 import tempfile
@@ -70,10 +71,35 @@ def samples():
     return {name: load(folder, name)[8:] for name in sorted(os.listdir(folder))}
 
 
+def with_copies(data, copies):
+    """A file of tables without copies, in which these have them: for each table how many copies each of its rows has,
+    or None if it is left as it is. The plan stays the same."""
+    made, at = b"", 0
+    for given in copies:
+        mask, rows = (int.from_bytes(data[i : i + 4], "little") for i in (at + 2, at + 6))
+        end = at + 10 + 4 * rows * bin(mask).count("1")
+        record, at = data[at:end], end
+        made += record if given is None else b"TC" + record[2:10] + struct.pack("<%dI" % rows, *given) + record[10:]
+    return made + data[at:]
+
+
+def drawn_copies(data, draw):
+    """A file in which some tables, or all, have copies, 1 to 3 of each row."""
+    rows = [table.rows for table in reference.read(data)[0]]
+    return with_copies(
+        data, [[draw.choice((1, 1, 2, 3)) for _ in range(n)] if draw.random() < 0.7 else None for n in rows]
+    )
+
+
+COUNTED_SAMPLE = with_copies(SAMPLE, [[1, 3, 2, 9], None, [2, 1, 4]])  # frames and readings have copies
+
+
 def damaged(count):
-    """Drawn files: samples cut, lengthened, with bytes changed, with another plan or none. The same at every run."""
+    """Drawn files: samples, with copies or without, cut, lengthened, with bytes changed, with another plan or none.
+    The same at every run."""
     draw = random.Random(7)
     small = [data for data in samples().values() if len(data) < 400]
+    small += [drawn_copies(data, draw) for data in small if expected(data)[0] in (0, 9, 14) and b"TC" not in data]
     for _ in range(count):
         data = bytearray(draw.choice(small))
         for _ in range(draw.randrange(3)):
@@ -83,11 +109,11 @@ def damaged(count):
 
 def damage(data, draw):
     """Damages a file once."""
-    kind, at = draw.randrange(6), draw.randrange(len(data) + 1)
+    kind, at = draw.randrange(7), draw.randrange(len(data) + 1)
     if kind == 0:
         del data[at:]
     elif kind == 1:
-        data[at:at] = draw.choice([b"TB", b"PL", b"\xff", b"\0", bytes([draw.randrange(256)])])
+        data[at:at] = draw.choice([b"TB", b"TC", b"PL", b"\xff", b"\0", bytes([draw.randrange(256)])])
     elif kind == 2 and at < len(data):
         data[at] = draw.choice([0, 1, 2, 255, draw.randrange(256)])
     elif kind == 3 and b"PL" in data:  # the plan's bytes in another order
@@ -99,10 +125,13 @@ def damage(data, draw):
         data[draw.randrange(2, 10)] ^= 1 << draw.randrange(8)
     elif kind == 5 and b"PL" in data:
         data[data.rindex(b"PL") :] = NO_PLAN
+    elif kind == 6 and len(data) > 14:  # the other mark of a table, or another count of copies
+        at = draw.choice((1, *range(10, 14)))
+        data[at] = data[at] ^ 1 if at == 1 else draw.choice((0, 0, 1, 255))
 
 
 def expected(data):
-    """The answer of 1 to 9 and 14 by the reference, or (0, 0)."""
+    """The answer of 1 to 9, 14 and 19 by the reference, or (0, 0)."""
     try:
         tables, code = reference.read(data)
         reference.check_plan(tables, code)

@@ -1,5 +1,5 @@
-"""Tests of one result by its number, and of its number by its rows: against the reference, at every edge, and from
-Python."""
+"""Tests of one result by its number, and of its number by its rows and copies: against the reference, at every edge,
+and from Python."""
 import array
 import bisect
 import collections
@@ -18,8 +18,9 @@ import warnings
 from unittest import mock
 
 from reference import HOLD
-from support import CSVS, FOUND_PLAN, NO_PLAN, SAMPLE, SAMPLE_PLAN, Folder, damaged, load, samples
-from test_library import BEFORE, NEED, drawn_tables, words
+from support import COUNTED_SAMPLE, CSVS, FOUND_PLAN, NO_PLAN, SAMPLE, SAMPLE_PLAN
+from support import Folder, damaged, drawn_copies, load, samples, with_copies
+from test_library import BEFORE, NEED, drawn_file, drawn_tables, words
 from test_products import two_totals
 
 import pigrozd
@@ -29,6 +30,7 @@ from pigrozd import access, fileformat, library, plans
 HIGHEST = 2**64 - 1  # the highest n that can be given
 SAMPLE_VALUES = [(10, 1, 7, 29510), (10, 1, 7, 29510), (11, 2, 9, 29530), (12, 2, 9, 29530)]
 SAMPLE_ROWS = [(0, 0, 0), (0, 0, 1), (1, 2, 2), (2, 2, 2)]
+NO_PAIRS = [0] * 16, [0] * 16  # the row numbers and copies of a refusal
 TABLES = {
     "frames": {"frame": [10, 11, 12, 13], "exposure": [1, 2, 2, 4]},
     "exposures": {"exposure": [1, 2, 2, 3], "reading": [7, 8, 9, 7]},
@@ -52,12 +54,12 @@ class Calls(unittest.TestCase):
     if nothing else is said."""
 
     def check_scratch(self, number, scratch):
-        """After 1 to 10 and 14 the scratch is as it was; else all of it is zero."""
-        kept = 1 <= number <= 10 or number == 14
+        """After 1 to 10, 14 and 19 the scratch is as it was; else all of it is zero."""
+        kept = 1 <= number <= 10 or number in (14, 19)
         self.assertEqual(scratch, words(BEFORE if kept else 0) * len(scratch))
 
     def result_at(self, data, n, scratch_words=None, row_words=40):
-        """Number, detail, values and row numbers of result n. What stands behind the values is as it was."""
+        """Number, detail, values, row numbers and copies of result n. What stands behind the values is as it was."""
         scratch = words(BEFORE) * (needed(data) if scratch_words is None else scratch_words)
         row = words(BEFORE) * row_words
         answer = pigrozd.call_result_at(data, scratch, n, row)
@@ -65,12 +67,12 @@ class Calls(unittest.TestCase):
         end = 0 if answer.number else width_of(data)
         self.assertEqual(row[end:], words(BEFORE) * (row_words - end))
         self.assertNotIn(answer.number, (13, 15, 17))
-        return answer.number, answer.detail, list(row[:end]), list(answer.rows)
+        return answer.number, answer.detail, list(row[:end]), list(answer.rows), list(answer.copies)
 
-    def number_of(self, data, rows, scratch_words=None):
-        """Number, detail and n of the result with these rows."""
+    def number_of(self, data, rows, scratch_words=None, copies=None):
+        """Number, detail and n of the result with these rows and copies; copy 0 of each row if nothing is said."""
         scratch = words(BEFORE) * (needed(data) if scratch_words is None else scratch_words)
-        answer = pigrozd.call_number_of(data, scratch, rows)
+        answer = pigrozd.call_number_of(data, scratch, rows, [0] * len(rows) if copies is None else copies)
         self.check_scratch(answer.number, scratch)
         self.assertNotIn(answer.number, (13, 15, 16, 18))
         return tuple(answer)
@@ -82,27 +84,30 @@ class Calls(unittest.TestCase):
             self.assertEqual(answer, reference.result_at(data, scratch_words, n, row_words))
         return answer[0]
 
-    def check_number(self, data, rows, scratch_words=2000):
-        """It gives for these rows what the reference gives. The answer's number."""
-        answer = self.number_of(data, rows, scratch_words)
-        with self.subTest(file=data[:200].hex(), rows=rows, scratch=scratch_words):
-            self.assertEqual(answer, reference.number_of(data, scratch_words, rows))
+    def check_number(self, data, rows, scratch_words=2000, copies=None):
+        """It gives for these rows and copies what the reference gives. The answer's number."""
+        copies = [0] * len(rows) if copies is None else copies
+        answer = self.number_of(data, rows, scratch_words, copies)
+        with self.subTest(file=data[:200].hex(), rows=rows, copies=copies, scratch=scratch_words):
+            self.assertEqual(answer, reference.number_of(data, scratch_words, rows, copies))
         return answer[0]
 
-    def check_both_ways(self, data, n, rows):
-        """Result n is made of these rows, and these rows make result n."""
-        number, detail, _, given = self.result_at(data, n)
-        self.assertEqual((number, detail, given), (0, 0, [*rows, *[0] * (16 - len(rows))]), n)
-        self.assertEqual(self.number_of(data, rows), (0, 0, n))
+    def check_both_ways(self, data, n, rows, copies=None):
+        """Result n is made of these rows and copies, and they make result n."""
+        copies, rest = [0] * len(rows) if copies is None else copies, [0] * (16 - len(rows))
+        number, detail, _, *given = self.result_at(data, n)
+        self.assertEqual((number, detail, *given), (0, 0, [*rows, *rest], [*copies, *rest]), n)
+        self.assertEqual(self.number_of(data, rows, copies=copies), (0, 0, n))
 
     def check_end(self, data, results):
         """There are so many results: the last of them is there and back, and 16 says how many there are."""
         if results:
-            rows = self.result_at(data, results - 1)[3][: len(fileformat.read(data).tables)]
-            self.check_both_ways(data, results - 1, rows)
+            tables = len(fileformat.read(data).tables)
+            rows, copies = (given[:tables] for given in self.result_at(data, results - 1)[3:])
+            self.check_both_ways(data, results - 1, rows, copies)
         for n in (results, results + 1, 2**32 - 1, 2**32, 2**63, HIGHEST):
             if n >= results:
-                self.assertEqual(self.result_at(data, n), (16, results, [], [0] * 16))
+                self.assertEqual(self.result_at(data, n), (16, results, [], *NO_PAIRS))
 
 
 class Files(Calls):
@@ -112,7 +117,7 @@ class Files(Calls):
             self.check_both_ways(SAMPLE, n, SAMPLE_ROWS[n])
         self.check_end(SAMPLE, 4)
         self.assertEqual(NEED, needed(SAMPLE))
-        self.assertEqual(self.result_at(SAMPLE, 0, NEED - 1), (10, NEED, [], [0] * 16))
+        self.assertEqual(self.result_at(SAMPLE, 0, NEED - 1), (10, NEED, [], *NO_PAIRS))
         self.assertEqual(self.number_of(SAMPLE, SAMPLE_ROWS[0], NEED - 1), (10, NEED, 0))
 
     def test_rows_stand_by_table_number(self):
@@ -131,12 +136,12 @@ class Files(Calls):
                 self.check_both_ways(data, n, [y for _, y in sorted(zip(order, pick))])
 
     def test_random_files(self):
-        """400 small files, whole and damaged: each result there and back, and numbers behind the last one. In every
-        second file values are missing, and every third has no plan."""
-        chance, numbers, results, mended = random.Random(23), collections.Counter(), 0, 0
-        for index in range(400):
-            tables, plan = drawn_tables(chance, 0.2 * (index % 2))
-            data = bytearray(pigrozd.make_file(tables, plan if index % 3 else None))
+        """600 small files, whole and damaged: each result there and back, and numbers behind the last one. In every
+        second file values are missing, every third has no plan, and in three of four some tables have copies. Of many
+        results fifty are drawn."""
+        chance, numbers, results, mended = random.Random(23), collections.Counter(), collections.Counter(), 0
+        for index in range(600):
+            data = drawn_file(chance, index)
             if chance.random() < 0.3:
                 data[chance.randrange(len(data))] = chance.choice((0, 1, 2, 255))
             data = bytes(data)
@@ -146,14 +151,15 @@ class Files(Calls):
                 continue
             read = fileformat.read(data)
             mended += bool(read.plan) and read.mended.code != read.code
-            for n in range(out):
+            for n in range(out) if out <= 50 else chance.sample(range(out), 50):
                 self.assertEqual(self.check_result(data, n, needed(data), width_of(data) + chance.randrange(3)), 0)
-                self.check_both_ways(data, n, self.result_at(data, n)[3][: len(read.tables)])
+                self.check_both_ways(data, n, *(given[: len(read.tables)] for given in self.result_at(data, n)[3:]))
+                results[read.is_counted()] += 1
             self.check_end(data, out)
-            results += out
-        self.assertGreater(results, 500)
+        self.assertGreater(results[False], 200)
+        self.assertGreater(results[True], 700)
         self.assertGreater(mended, 20)
-        for number in (1, 2, 3, 7, 9, 10, 14, 16, 18):
+        for number in (1, 2, 3, 7, 9, 10, 14, 16, 18, 19):
             self.assertGreater(numbers[number], 0, number)
 
     def test_every_choice(self):
@@ -182,10 +188,10 @@ class Files(Calls):
             for n in (0, 1, 3, 100, HIGHEST):
                 numbers[self.check_result(data, n, 70000)] += 1
             numbers[self.check_number(data, [0] * len(fileformat.read(data).tables), 70000)] += 1
-        self.assertEqual(set(numbers), {0, 1, 2, 3, 4, 5, 6, 7, 8, 9, 11, 14, 16, 17})
+        self.assertEqual(set(numbers), {0, 1, 2, 3, 4, 5, 6, 7, 8, 9, 11, 14, 16, 17, 19})
 
     def test_damaged_files(self):
-        """What the join refuses with 1 to 10 and 14 is refused with the same number and detail."""
+        """What the join refuses with 1 to 10, 14 and 19 is refused with the same number and detail."""
         seen = collections.Counter()
         for data in damaged(700):
             for scratch_words in (0, 300):
@@ -196,7 +202,7 @@ class Files(Calls):
                     self.assertEqual(self.result_at(data, 0, scratch_words)[:2], joined[:2])
                     self.assertEqual(self.number_of(data, [0], scratch_words), (*joined[:2], 0))
                 seen[joined.number] += 1
-        self.assertEqual(set(seen), {*range(1, 11), 14})
+        self.assertEqual(set(seen), {*range(1, 11), 14, 19})
 
     def test_values_not_recorded(self):
         """Where two tables share the attribute they are in no result; else they stand in the row buffer."""
@@ -337,8 +343,8 @@ class ManyResults(Calls):
             data = two_totals([(1, 2), (2, 1)], wide, narrow)
             self.check_end(data, wide + narrow)
             for n in (0, wide - 1, wide, wide + narrow - 1):
-                number, detail, _, rows = self.result_at(data, n)
-                self.assertEqual((number, detail, rows[0]), (0, 0, int(n >= wide)))
+                number, detail, _, rows, copies = self.result_at(data, n)
+                self.assertEqual((number, detail, rows[0], copies), (0, 0, int(n >= wide), [0] * 16))
                 self.assertEqual(self.number_of(data, rows), (0, 0, n))
 
     def test_a_large_group_that_no_result_uses(self):
@@ -359,11 +365,11 @@ class Limit(Calls):
         """11, whatever is asked for and however long the row buffer is. Its detail is the limit."""
         tables = len(fileformat.read(data).tables)
         for n, row_words in ((0, 40), (WORD, 40), (HOLD - 1, 40), (HIGHEST, 40), (HIGHEST, 0)):
-            self.assertEqual(self.result_at(data, n, None, row_words), (11, HOLD, [], [0] * 16))
+            self.assertEqual(self.result_at(data, n, None, row_words), (11, HOLD, [], *NO_PAIRS))
         for rows in ([0] * tables, [], [4096] * tables, [0] * 17):
             self.assertEqual(self.number_of(data, rows), (11, HOLD, 0))
         need = needed(data)
-        self.assertEqual(self.result_at(data, 0, need - 1, 0), (10, need, [], [0] * 16))
+        self.assertEqual(self.result_at(data, 0, need - 1, 0), (10, need, [], *NO_PAIRS))
         self.assertEqual(self.number_of(data, [], need - 1), (10, need, 0))
 
     def test_exactly(self):
@@ -398,6 +404,13 @@ class Limit(Calls):
     def test_sums(self):
         for wide, narrow in ((HOLD - 1, 1), (HOLD - WORD, WORD), (HOLD - WORD + 1, WORD), (HOLD, 1)):
             self.too_many(two_totals([(1, 2), (2, 1)], wide, narrow))
+
+    def test_copies(self):
+        """Exactly so many by copies, and more."""
+        self.assertEqual(65535 * 65537 * 641 * 6700417, HOLD)
+        for totals in ((65535, 65537, 641, 6700417), (6700417, 641, 65537, 65535), (65536,) * 4, (65535,) * 5):
+            self.too_many(one_value(*(as_copies(total) for total in totals)))
+        self.too_many(one_value(*[[65535] * 4096] * 16))
 
 
 class Shapes(Calls):
@@ -435,11 +448,11 @@ class Edges(Calls):
             need, tables = needed(data), len(fileformat.read(data).tables)
             for scratch_words in (0, 1, need - 1):
                 for n, row_words in ((0, 40), (HIGHEST, 40), (0, 0)):
-                    self.assertEqual(self.result_at(data, n, scratch_words, row_words), (10, need, [], [0] * 16))
+                    self.assertEqual(self.result_at(data, n, scratch_words, row_words), (10, need, [], *NO_PAIRS))
                 for rows in ([0] * tables, []):
                     self.assertEqual(self.number_of(data, rows, scratch_words), (10, need, 0))
             for scratch_words in (need, need + 1, need + 1000):
-                number, _, _, rows = self.result_at(data, 0, scratch_words)
+                number, _, _, rows, _ = self.result_at(data, 0, scratch_words)
                 self.assertEqual((number, self.number_of(data, rows[:tables], scratch_words)), (0, (0, 0, 0)))
 
     def test_row_buffer(self):
@@ -450,18 +463,18 @@ class Edges(Calls):
             width = width_of(data)
             for row_words in range(width):
                 for n in (0, results, HIGHEST):
-                    self.assertEqual(self.result_at(data, n, None, row_words), (18, width, [], [0] * 16))
+                    self.assertEqual(self.result_at(data, n, None, row_words), (18, width, [], *NO_PAIRS))
             for row_words in (width, width + 1, width + 100):
-                self.assertEqual(self.result_at(data, results, None, row_words), (16, results, [], [0] * 16))
+                self.assertEqual(self.result_at(data, results, None, row_words), (16, results, [], *NO_PAIRS))
         for row_words in (4, 5, 100):
             self.assertEqual(self.result_at(SAMPLE, 2, None, row_words)[2], list(SAMPLE_VALUES[2]))
 
     def test_widest_row(self):
         """32 attributes, 8 in each of 4 tables."""
         data = pigrozd.make_file([{8 * t + a: [100 * t + a] * 3 for a in range(8)} for t in range(4)])
-        self.assertEqual(self.result_at(data, 80, None, 31), (18, 32, [], [0] * 16))
+        self.assertEqual(self.result_at(data, 80, None, 31), (18, 32, [], *NO_PAIRS))
         values = [100 * t + a for t in range(4) for a in range(8)]
-        self.assertEqual(self.result_at(data, 80, None, 33), (0, 0, values, [2] * 4 + [0] * 12))
+        self.assertEqual(self.result_at(data, 80, None, 33), (0, 0, values, [2] * 4 + [0] * 12, [0] * 16))
         self.check_end(data, 81)
 
     def test_no_result(self):
@@ -511,6 +524,162 @@ class Edges(Calls):
         self.assertEqual(self.number_of(data, (0, 0, 0)), (17, 0, 0))
 
 
+# ---- copies
+def one_value(*copies):
+    """A file of tables of one attribute and one value, so that all rows agree, joined each to all behind it; with the
+    copies of each table's rows."""
+    data = pigrozd.make_file([{0: [7] * len(given)} for given in copies], deep(tuple(range(len(copies))), False))
+    return with_copies(data, copies)
+
+
+def as_copies(total):
+    """The copies of so few rows as can be, of which there are so many together."""
+    full, rest = divmod(total, 65535)
+    return [65535] * full + ([rest] if rest else [])
+
+
+def pair_at(copies, place):
+    """The row and the copy at this place among all pairs of a table, rising."""
+    for row, there in enumerate(copies):
+        if place < there:
+            return row, place
+        place -= there
+
+
+class Counted(Calls):
+    """Tables with copies: results are made of pairs of a row and a copy, there and back."""
+
+    def check_pairs(self, data, n, pairs):
+        """Result n is made of these pairs, by table number, and back."""
+        self.check_both_ways(data, n, *zip(*pairs))
+
+    def test_sample(self):
+        """Copies rise within a row, and the first table of the plan changes last."""
+        frames, readings = (1, 3, 2, 9), (2, 1, 4)
+        pairs = [
+            ((frame, copy), (exposure, 0), (reading, other))
+            for frame, exposure, found in ((0, 0, (0, 1)), (1, 2, (2,)), (2, 2, (2,)))
+            for copy in range(frames[frame])
+            for reading in found
+            for other in range(readings[reading])
+        ]
+        self.assertEqual(len(pairs), 3 + 12 + 8)
+        for n, result in enumerate(pairs):
+            self.check_pairs(COUNTED_SAMPLE, n, result)
+            self.assertIn(tuple(self.result_at(COUNTED_SAMPLE, n)[2]), SAMPLE_VALUES)
+        self.check_end(COUNTED_SAMPLE, 23)
+        self.assertEqual(self.result_at(COUNTED_SAMPLE, 0, NEED - 1), (10, NEED, [], *NO_PAIRS))
+        self.assertEqual(self.number_of(COUNTED_SAMPLE, (0, 0, 0), NEED - 1), (10, NEED, 0))
+
+    def test_pairs_stand_by_table_number(self):
+        """Whatever the plan's order is, by which results have their numbers."""
+        tables, copies = [{0: [5, 6]}, {0: [6, 5, 5]}, {0: [5, 6]}], [[2, 3], None, [1, 4]]
+        pairs = [[(y, c) for y, there in enumerate(given or [1] * 3) for c in range(there)] for given in copies]
+        for order in itertools.permutations(range(3)):
+            data = with_copies(pigrozd.make_file(tables, (order[0], (order[1], order[2]))), copies)
+            picks = itertools.product(*(pairs[t] for t in order))
+            agreed = [pick for pick in picks if len({tables[t][0][y] for t, (y, _) in zip(order, pick)}) == 1]
+            self.assertEqual(len(agreed), 2 * 2 * 1 + 3 * 1 * 4)
+            for n, pick in enumerate(agreed):
+                self.check_pairs(data, n, [pair for _, pair in sorted(zip(order, pick))])
+            self.check_end(data, len(agreed))
+
+    def test_every_pair(self):
+        """Of each table one pair, of those that are there and of those just behind them: it is a result with its
+        number, or none, and then 17 says so."""
+        chance, numbers = random.Random(53), collections.Counter()
+        for _ in range(150):
+            tables, _ = drawn_tables(chance, 0.1)
+            data = drawn_copies(pigrozd.make_file(tables[:2]), chance)
+            read = fileformat.read(data)
+            there = [[*enumerate(read.copies(table)), (table.rows, 1)] for table in read.tables]
+            each = [[(row, copy) for row, copies in pairs for copy in range(copies + 1)] for pairs in there]
+            for choice in itertools.product(*each):
+                rows, copies = zip(*choice)
+                numbers[self.check_number(data, rows, copies=copies)] += 1
+        self.assertEqual(set(numbers), {0, 17})
+        self.assertGreater(numbers[0], 200)
+        self.assertGreater(numbers[17], 1000)
+
+    def test_wrong_copies(self):
+        """17: not one for each table, or not below the number of the row's copies. So it is without copies."""
+        rows = (1, 2, 2)
+        for copies in ((), (0,), (0, 0), (0, 0, 0, 0), (0,) * 16, (0,) * 17, (0,) * 300):
+            self.assertEqual(self.number_of(COUNTED_SAMPLE, rows, copies=copies), (17, 0, 0))
+            self.assertEqual(self.number_of(SAMPLE, rows, copies=copies), (17, 0, 0))
+        self.assertEqual(self.number_of(COUNTED_SAMPLE, rows, copies=(2, 0, 3)), (0, 0, 14))
+        for copies in ((3, 0, 3), (2, 1, 3), (2, 0, 4), (2**32 - 1, 0, 0), (0, 2**16, 0), (0, 0, 2**31)):
+            self.assertEqual(self.number_of(COUNTED_SAMPLE, rows, copies=copies), (17, 0, 0))
+        for copies in ((1, 0, 0), (0, 1, 0), (0, 0, 1), (0, 0, 2**32 - 1)):
+            self.assertEqual(self.number_of(SAMPLE, rows, copies=copies), (17, 0, 0))
+        for rows in ((), (0,), (0, 0), (0, 0, 0, 0)):
+            self.assertEqual(self.number_of(COUNTED_SAMPLE, rows, copies=(0, 0, 0)), (17, 0, 0))
+        for rows in ((4, 0, 0), (0, 4, 0), (0, 0, 3), (0, 1, 0), (3, 0, 0)):
+            self.assertEqual(self.number_of(COUNTED_SAMPLE, rows, copies=(0, 0, 0)), (17, 0, 0))
+
+    def test_copies_of_another_row(self):
+        """A copy is counted from 0 in its own row: that of another row of the same table is of no matter."""
+        data = one_value([1, 65535, 3])
+        for n, pair in ((0, (0, 0)), (1, (1, 0)), (65535, (1, 65534)), (65536, (2, 0)), (65538, (2, 2))):
+            self.check_pairs(data, n, [pair])
+        for row, copy in ((0, 1), (1, 65535), (2, 3), (0, 65534)):
+            self.assertEqual(self.number_of(data, [row], copies=[copy]), (17, 0, 0))
+        self.check_end(data, 65539)
+
+    def test_wrong_counts(self):
+        """19, before all else that a call can say, with the offset of the mark."""
+        plain = pigrozd.make_file([{0: [7]}, {0: [7, 7]}], (0, 1))
+        for copies in (0, 65536, 2**32 - 1):
+            for data, at in ((with_copies(plain, [[copies], None]), 0), (with_copies(plain, [None, [1, copies]]), 14)):
+                for scratch_words, row_words in ((None, 40), (0, 0)):
+                    self.assertEqual(self.result_at(data, 0, scratch_words, row_words), (19, at, [], *NO_PAIRS))
+                for rows in ((0, 0), ()):
+                    self.assertEqual(self.number_of(data, rows, 0), (19, at, 0))
+
+    def test_no_attribute_shared(self):
+        """Places among the pairs of each table are the digits of n."""
+        copies = [[900, 1, 99], [65535, 65535, 2], [7]]
+        tables = [{t: range(10 * t, 10 * t + len(given))} for t, given in enumerate(copies)]
+        data = with_copies(pigrozd.make_file(tables, (0, (1, 2))), copies)
+        results = 1000 * 131072 * 7
+        for n in (0, 6, 7, 458744, 458745, 917489, 917490, 917504, 917505, results // 2, 900 * 917504, results - 1):
+            places = n // 7 // 131072, n // 7 % 131072, n % 7
+            pairs = [pair_at(given, place) for given, place in zip(copies, places)]
+            self.check_pairs(data, n, pairs)
+            self.assertEqual(self.result_at(data, n)[2], [10 * t + row for t, (row, _) in enumerate(pairs)])
+        self.check_end(data, results)
+
+    def test_many_results(self):
+        """Around 32 bits, and one less than the limit: 4 tables suffice, as a row has many copies."""
+        for totals in (
+            (65535, 65537),
+            (65536, 65536),
+            (641, 6700417),
+            (65535, 65535, 65535, 65535),
+            (908558, 337, 92737, 649657),
+        ):
+            copies, results = [as_copies(total) for total in totals], math.prod(totals)
+            data, chance = one_value(*copies), random.Random(59)
+            numbers = {0, 1, 65534, 65535, WORD - 2, WORD - 1, WORD, 2**48, 2**63, results // 2, results - 1}
+            for n in sorted(numbers | {chance.randrange(results) for _ in range(20)}):
+                if n < results:
+                    rest, pairs = n, []
+                    for given in reversed(copies):
+                        rest, place = divmod(rest, sum(given))
+                        pairs.append(pair_at(given, place))
+                    self.check_pairs(data, n, pairs[::-1])
+            self.check_end(data, results)
+        self.assertEqual(results, HOLD - 1)
+
+    def test_by_the_reference(self):
+        data = one_value(*(as_copies(total) for total in (908558, 337, 92737, 649657)))
+        for n in (0, WORD, 2**63, HOLD - 2, HOLD - 1, HIGHEST):
+            self.check_result(data, n, 5000)
+        rows, copies = (given[:4] for given in self.result_at(data, 2**63 + 7)[3:])
+        for given in (copies, copies[:3], [*copies[:3], 65535]):
+            self.check_number(data, rows, 5000, given)
+
+
 class Buffers(unittest.TestCase):
     def test_result_at(self):
         good = words(*range(200))
@@ -534,7 +703,7 @@ class Buffers(unittest.TestCase):
                 pigrozd.call_result_at(SAMPLE, scratch, 0, row)
         self.assertEqual(good, words(*range(200)))
         answer = pigrozd.call_result_at(SAMPLE, memoryview(good)[:NEED], 2, memoryview(good)[NEED:])
-        self.assertEqual(answer, (0, 0, (1, 2, 2) + (0,) * 13))
+        self.assertEqual(answer, (0, 0, (1, 2, 2) + (0,) * 13, (0,) * 16))
         self.assertEqual(good, words(*[0] * NEED, *SAMPLE_VALUES[2], *range(NEED + 4, 200)))
 
     def test_number_of(self):
@@ -544,13 +713,18 @@ class Buffers(unittest.TestCase):
                 pigrozd.call_number_of(SAMPLE, scratch, [0, 0, 0])
         for rows in ((1, 2, 2), [1, 2, 2], words(1, 2, 2), iter([1, 2, 2]), b"\1\2\2"):
             self.assertEqual(pigrozd.call_number_of(SAMPLE, good, rows), (0, 0, 2))
+        for copies in ((2, 0, 3), [2, 0, 3], words(2, 0, 3), iter([2, 0, 3]), b"\2\0\3"):
+            self.assertEqual(pigrozd.call_number_of(COUNTED_SAMPLE, good, (1, 2, 2), copies), (0, 0, 14))
+        self.assertEqual(pigrozd.call_number_of(COUNTED_SAMPLE, good, (1, 2, 2)), (0, 0, 3))
+        for copies in ((), (0,), (0, 0), (0, 0, 0, 0), (0, 0, 4), (0, 1, 0)):
+            self.assertEqual(pigrozd.call_number_of(COUNTED_SAMPLE, good, (1, 2, 2), copies), (17, 0, 0))
         self.assertEqual(good, words(0) * NEED)
         self.assertEqual(pigrozd.call_number_of(SAMPLE, words(), []), pigrozd.NumberAnswer(10, NEED, 0))
 
     def test_no_buffer(self):
         nothing = pigrozd.make_file([{0: []}])
-        self.assertEqual(pigrozd.call_result_at(nothing, words(), 0, words()), (18, 1, (0,) * 16))
-        self.assertEqual(pigrozd.call_result_at(nothing, words(), 0, words(5)), (16, 0, (0,) * 16))
+        self.assertEqual(pigrozd.call_result_at(nothing, words(), 0, words()), (18, 1, (0,) * 16, (0,) * 16))
+        self.assertEqual(pigrozd.call_result_at(nothing, words(), 0, words(5)), (16, 0, (0,) * 16, (0,) * 16))
         self.assertEqual(pigrozd.call_number_of(nothing, words(), []), (17, 0, 0))
 
     def test_numbers(self):
@@ -566,6 +740,12 @@ class Buffers(unittest.TestCase):
         for row in (1.0, "1", None, True):
             with self.assertRaisesRegex(TypeError, "^a row number is a whole number, not "):
                 pigrozd.call_number_of(SAMPLE, words(), [0, row])
+        for copy in (-1, 2**32, 10**100):
+            with self.assertRaisesRegex(ValueError, "^a copy number is 0 to 4294967295, not "):
+                pigrozd.call_number_of(SAMPLE, words(), [0, 0], [0, copy])
+        for copy in (1.0, "1", None, True):
+            with self.assertRaisesRegex(TypeError, "^a copy number is a whole number, not "):
+                pigrozd.call_number_of(SAMPLE, words(), [0, 0], [0, copy])
 
     def test_files_that_are_no_bytes(self):
         for given in (5, None, "crates/pigrozd/stdin", [84, 66]):
@@ -579,14 +759,14 @@ class Buffers(unittest.TestCase):
         header = load("include", "pigrozd.h").decode()
         structs = dict(re.findall(r"^typedef struct (\w+) \{\n(.*?)^\}", header, re.M | re.S))
         for name, struct, size in (
-            ("pigrozd_result_answer", library.ResultAnswerStruct, 80),
+            ("pigrozd_result_answer", library.ResultAnswerStruct, 144),
             ("pigrozd_number_answer", library.NumberAnswerStruct, 24),
         ):
             self.assertEqual(ctypes.sizeof(struct), size)
             kinds = {"uint64_t": ctypes.c_uint64, "uint32_t": ctypes.c_uint32 * 16}
             fields = [(field, kinds[kind]) for kind, field in re.findall(r"^    (\w+) (\w+)", structs[name], re.M)]
             self.assertEqual(fields, struct._fields_)
-        self.assertEqual(pigrozd.ResultAnswer._fields, ("number", "detail", "rows"))
+        self.assertEqual(pigrozd.ResultAnswer._fields, ("number", "detail", "rows", "copies"))
         self.assertEqual(pigrozd.NumberAnswer._fields, ("number", "detail", "n"))
 
     def test_an_older_library(self):
@@ -599,6 +779,30 @@ class Buffers(unittest.TestCase):
                 pigrozd.open_tables(TABLES)
             with self.assertRaisesRegex(pigrozd.LibraryError, "an older library .* no function pigrozd_number_of "):
                 pigrozd.call_number_of(SAMPLE, words(), [])
+
+    def test_a_library_without_copies(self):
+        """One with all functions, two of which take or give less: it says 2 to the mark of a table with copies."""
+        asked = []
+
+        def older_join(file, length, *_):
+            asked.append((file, length))
+            return types.SimpleNamespace(number=2)
+
+        others = ("pigrozd_slow_join", "pigrozd_result_at", "pigrozd_number_of")
+        older = types.SimpleNamespace(pigrozd_join=older_join, **{name: lambda: None for name in others})
+        library.function.cache_clear()
+        self.addCleanup(library.function.cache_clear)
+        with mock.patch.object(library, "library", lambda: older):
+            for call in (
+                lambda: pigrozd.join(TABLES),
+                lambda: pigrozd.join(TABLES, engine="slow"),
+                lambda: pigrozd.open_tables(TABLES),
+                lambda: pigrozd.call_number_of(SAMPLE, words(), []),
+            ):
+                told = r"an older library of Pigrozd's: it knows no tables with copies \(PIGROZD_LIBRARY names the lib"
+                with self.assertRaisesRegex(pigrozd.LibraryError, told):
+                    call()
+        self.assertEqual(set(asked), {(b"TC", 2)})
 
 
 # ---- opened tables
@@ -672,8 +876,9 @@ class Opened(unittest.TestCase):
     def test_results(self):
         for n in range(4):
             result = self.tables.result(n)
-            self.assertEqual(result, pigrozd.ResultRow(n, SAMPLE_VALUES[n], SAMPLE_ROWS[n]))
+            self.assertEqual(result, pigrozd.ResultRow(n, SAMPLE_VALUES[n], SAMPLE_ROWS[n], (0, 0, 0)))
             self.assertEqual(self.tables.number_of(result.rows), n)
+            self.assertEqual(self.tables.number_of(result.rows, result.copies), n)
             self.assertEqual(pickle.loads(pickle.dumps(result)), result)
             with self.assertRaises(AttributeError):
                 result.n = 5
@@ -831,12 +1036,12 @@ class WayBack(unittest.TestCase):
     def setUp(self):
         self.tables = pigrozd.open_tables(TABLES)
 
-    def refused(self, why, rows, tables=None):
+    def refused(self, why, rows, tables=None, copies=None):
         with self.assertRaises(pigrozd.Refused) as caught:
-            (self.tables if tables is None else tables).number_of(rows)
+            (self.tables if tables is None else tables).number_of(rows, copies)
         self.assertEqual((caught.exception.number, caught.exception.detail), (17, 0))
         self.assertEqual(caught.exception.why, why)
-        self.assertEqual(caught.exception.meaning, "the row numbers are those of no result: " + why)
+        self.assertEqual(caught.exception.meaning, "the row numbers and copies are those of no result: " + why)
 
     def test_sequences(self):
         for rows in ((1, 2, 2), [1, 2, 2], array.array("I", [1, 2, 2]), iter([1, 2, 2])):
@@ -910,21 +1115,73 @@ class WayBack(unittest.TestCase):
         told = "b and c do not agree: y was not recorded in row 1 of c, so that it matches nothing"
         self.refused(told, [0, 0, 1], missing)
 
+    def test_copies(self):
+        """Beside the rows, given in the same ways; without them copy 0 of each row."""
+        tables = pigrozd.open_file(COUNTED_SAMPLE)
+        self.assertEqual(len(tables), 23)
+        self.assertEqual(tables.result(14), pigrozd.ResultRow(14, SAMPLE_VALUES[2], (1, 2, 2), (2, 0, 3)))
+        for n, result in enumerate(tables[:].results()):
+            self.assertEqual(tables.number_of(result.rows, result.copies), n)
+            self.assertEqual(pickle.loads(pickle.dumps(result)), result)
+        for copies in ((2, 0, 3), [2, 0, 3], array.array("I", [2, 0, 3]), iter([2, 0, 3]), {0: 2, "table1": 0, 2: 3}):
+            self.assertEqual(tables.number_of((1, 2, 2), copies), 14)
+        self.assertEqual(tables.number_of({2: 2, 1: 2, 0: 1}, {2: 3, 0: 2, 1: 0}), 14)
+        self.assertEqual(tables.number_of((1, 2, 2)), 3)
+        self.assertEqual(tables.number_of((1, 2, 2), None), 3)
+
+    def test_wrong_copies(self):
+        tables, rows = pigrozd.open_file(COUNTED_SAMPLE), (1, 2, 2)
+        told = "one copy number for each table is wanted (table0, table1 and table2), and %s given"
+        for copies, given in (([], "none is"), ([0], "1 is"), ([0, 0], "2 are"), ([0] * 4, "4 are")):
+            self.refused(told % given, rows, tables, copies)
+        told = "one copy number for each table is wanted, and none is given for table1"
+        self.refused(told, rows, tables, {0: 0, 2: 0})
+        for copies, told in (
+            ((3, 0, 0), "row 1 of table0 has no copy 3: it has 3 copies, numbered from 0"),
+            ((0, 1, 0), "row 2 of table1 has no copy 1: it has 1 copy, numbered from 0"),
+            ((0, 0, 4), "row 2 of table2 has no copy 4: it has 4 copies, numbered from 0"),
+            ((0, 0, -1), "row 2 of table2 has no copy -1: it has 4 copies, numbered from 0"),
+            ((0, 0, 2**32), "row 2 of table2 has no copy 4294967296: it has 4 copies, numbered from 0"),
+            ((0, 0, 10**100), "row 2 of table2 has no copy with such a number: it has 4 copies, numbered from 0"),
+        ):
+            self.refused(told, rows, tables, copies)
+        self.refused("row 1 of frames has no copy 1: it has 1 copy, numbered from 0", rows, None, (1, 0, 0))
+        self.refused("table2 has no row 3: it has 3 rows, numbered from 0", (1, 2, 3), tables, (0, 0, 9))
+        told = "table0 and table1 do not agree: a1 is 2 in row 1 of table0 and 1 in row 0 of table1"
+        self.refused(told, (1, 0, 0), tables, (2, 0, 1))
+
+    def test_what_is_no_copy_number(self):
+        for copies in ((1, 2, 2.0), (1, "2", 2), (1, None, 2), (True, 2, 2), {0: 1, 1: 2, 2: "2"}):
+            with self.assertRaisesRegex(TypeError, "^a copy number is a whole number, not "):
+                self.tables.number_of((1, 2, 2), copies)
+        for copies in (5, "122", 1.5):
+            with self.assertRaisesRegex(TypeError, "copy numbers come in a list, or in a mapping of tables, not in "):
+                self.tables.number_of((1, 2, 2), copies)
+        with self.assertRaisesRegex(TypeError, "a set has no order; give a list of copy numbers"):
+            self.tables.number_of((1, 2, 2), {1, 2})
+        for copies, told in (
+            ({"panels": 2}, "there is no table 'panels'; there are frames, exposures and readings"),
+            ({"frames": 1, 0: 1}, "two copy numbers are given for frames"),
+        ):
+            with self.assertRaisesRegex(pigrozd.InputError, "^%s$" % told):
+                self.tables.number_of((1, 2, 2), copies)
+
     def test_every_refusal_has_a_reason(self):
         """Where the library says 17 the package says why; and only there."""
-        chance, refused = random.Random(43), 0
-        for index in range(120):
-            tables, plan = drawn_tables(chance, 0.2)
-            data = pigrozd.make_file(tables, plan if index % 2 else None)
+        chance, numbers = random.Random(43), collections.Counter()
+        for index in range(300):
+            data = bytes(drawn_file(chance, index))
             read, called = fileformat.read(data), pigrozd.names.Names()
             if read.fault:
                 continue
             for _ in range(12):
                 rows = [chance.randrange(table.rows + 1) for table in read.tables]
-                number = pigrozd.call_number_of(data, words(0) * 2000, rows).number
-                self.assertEqual(number == 17, access.why_no_result(rows, read, called) != "")
-                refused += number == 17
-        self.assertGreater(refused, 300)
+                copies = [chance.randrange(3) for _ in range(len(rows) + chance.choice((-1, 0, 0, 0, 0, 0, 1)))]
+                number = pigrozd.call_number_of(data, words(0) * 2000, rows, copies).number
+                self.assertEqual(number == 17, access.why_no_result(rows, copies, read, called) != "")
+                numbers[number] += 1
+        self.assertGreater(numbers[17], 300)
+        self.assertGreater(numbers[0], 100)
 
 
 class Opening(Folder):
@@ -1013,8 +1270,8 @@ class Commands(Folder):
         here = self.write("sample", SAMPLE)
         for answer, told in (
             ("16 4", "n is not below the number of results"),
-            ("17 0", "the row numbers are those of no result"),
-            ("17 1", "the row numbers are those of no result; but the detail of 17 is 0"),
+            ("17 0", "the row numbers and copies are those of no result"),
+            ("17 1", "the row numbers and copies are those of no result; but the detail of 17 is 0"),
             ("18 4", "the row buffer is shorter than the values of a row"),
             ("18 5", "the row buffer is shorter than the values of a row; but a result of this file has 4 values"),
         ):

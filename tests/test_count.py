@@ -3,6 +3,7 @@ and by the command."""
 import array
 import dataclasses
 import itertools
+import math
 import pickle
 import random
 import unittest
@@ -11,9 +12,10 @@ from unittest import mock
 
 from make_samples import chain, file, right_deep, table
 from reference import HOLD
-from support import CSVS, FOUND_PLAN, NO_PLAN, SAMPLE, SAMPLE_PLAN, Folder, damaged, samples
-from test_access import EXACT, ONE_LESS, TABLES, deep, grouped
-from test_library import NEED, drawn_tables
+from support import COUNTED_SAMPLE, CSVS, FOUND_PLAN, NO_PLAN, SAMPLE, SAMPLE_PLAN
+from support import Folder, damaged, samples, with_copies
+from test_access import EXACT, ONE_LESS, TABLES, as_copies, deep, grouped, one_value
+from test_library import NEED, drawn_file, drawn_tables
 
 import pigrozd
 import reference
@@ -100,6 +102,34 @@ class Counting(Folder):
             self.assertEqual(*told)
             counted += isinstance(told[0], int) and told[0] > 0
         self.assertGreater(counted, 80)
+
+    def test_drawn_files(self):
+        """Some have copies. As many as the reference counts, or refused with its number and detail."""
+        chance, counted = random.Random(71), 0
+        for index in range(400):
+            data = bytes(drawn_file(chance, index))
+            number, detail, _, _ = reference.outcome(data, 10**6, 0)
+            if number in (0, 11):
+                size = pigrozd.count_file(data)
+                self.assertEqual((size.results, size.at_least), (detail, False))
+                counted += detail > 0 and b"TC" in data
+            else:
+                self.refused(number, detail, pigrozd.count_file, data)
+        self.assertGreater(counted, 60)
+
+    def test_copies(self):
+        """A row with copies counts as often; the bytes are those of the results."""
+        self.assertEqual(pigrozd.count_file(COUNTED_SAMPLE), Size(23, 4))
+        many = with_copies(SAMPLE, [[65535] * 4, [65535] * 4, [65535] * 3])
+        self.assertEqual(pigrozd.count_file(many), Size(4 * 65535**3, 4))
+        for totals in ((1,), (65535,), (65535, 65537), (65536, 65536), (908558, 337, 92737, 649657)):
+            self.assertEqual(pigrozd.count_file(one_value(*map(as_copies, totals))).results, math.prod(totals))
+        for totals in ((65535, 65537, 641, 6700417), (65536,) * 4, (65535,) * 5, (65535 * 4096,) * 16):
+            size = pigrozd.count_file(one_value(*map(as_copies, totals)))
+            self.assertEqual((size.results, size.at_least), (HOLD, True))
+        for copies in (0, 65536):
+            told = self.refused(19, 0, pigrozd.count_file, one_value([1, copies]))
+            self.assertIn("row 1 of table0 has {:,} copies, and a row has 1 to 65,535".format(copies), told)
 
     def test_samples(self):
         """As many as the reference counts, of every sample that is within the rules; they are far apart."""
@@ -292,6 +322,15 @@ class Command(Folder):
                 data = pigrozd.make_file(grouped(*groups), deep(ORDER, left))
                 self.assertEqual(self.counted(self.write("file", data)), least)
 
+    def test_copies(self):
+        self.assertEqual(self.counted(self.write("file", COUNTED_SAMPLE)), "results 23\nbytes 368\n")
+        data = with_copies(SAMPLE, [[65535] * 4, [65535] * 4, [65535] * 3])
+        told = "results %d\nbytes %d\n" % (4 * 65535**3, 64 * 65535**3)
+        self.assertEqual(self.counted(self.write("file", data)), told)
+        here = self.write("file", with_copies(pigrozd.make_file([{0: [7]}, {0: [7]}]), [None, [0]]))
+        told = "file: refused 19 14: .*: row 0 of table1 has 0 copies, and a row has 1 to 65,535; pigrozd dump .*file "
+        self.fails(told + "shows it$", "count", here, status=1)
+
     def test_more_than_join_writes(self):
         columns = [self.write(name + ".csv", name + "\n" + "7\n" * 4096) for name in "abc"]
         self.assertEqual(self.counted(*columns), "results %d\nbytes %d\n" % (2**36, 12 * 2**36))
@@ -351,8 +390,7 @@ class Reference(unittest.TestCase):
     def test_both_ways(self):
         chance, seen = random.Random(67), 0
         for index in range(500):
-            tables, plan = drawn_tables(chance, 0.1)
-            data = pigrozd.make_file(tables, plan if index % 2 else None)
+            data = bytes(drawn_file(chance, index))
             try:
                 tables, plan = reference.counted(data)[:2]
             except reference.Refused:
@@ -363,9 +401,12 @@ class Reference(unittest.TestCase):
             self.assertEqual(numbers.count(), len(tried))
             self.assertEqual([numbers.row(choice) for choice in choices], [row for _, row in tried])
             self.assertEqual([numbers.choice(n) for n in range(len(tried))], choices)
-            self.assertEqual(numbers.first_rows(), sorted({choice[0] for choice in choices}))
-            every = itertools.product(*(range(tables[t].rows + 1) for t in reference.names(plan)))
-            found = {choice: numbers.number(choice) for choice in every}
+            self.assertEqual(numbers.first_rows(), sorted({choice[0][0] for choice in choices}))
+            if math.prod(tables[t].pairs + tables[t].rows + 1 for t in reference.names(plan)) > 20000:
+                continue
+            there = [[*enumerate(tables[t].copies), (tables[t].rows, 0)] for t in reference.names(plan)]
+            each = [[(row, copy) for row, copies in pairs for copy in range(copies + 1)] for pairs in there]
+            found = {choice: numbers.number(choice) for choice in itertools.product(*each)}
             self.assertEqual({c: n for c, n in found.items() if n is not None}, {c: n for n, c in enumerate(choices)})
             seen += len(tried)
         self.assertGreater(seen, 500)
@@ -374,8 +415,7 @@ class Reference(unittest.TestCase):
         """The total counted from the groups is the number of results, or the limit: of samples and of drawn tables,
         whose plans are sent well-behaved, mended or found."""
         chance, numbers = random.Random(68), set()
-        drawn = [drawn_tables(chance, 0.1) for _ in range(500)]
-        files = {str(i): pigrozd.make_file(tables, plan if i % 2 else None) for i, (tables, plan) in enumerate(drawn)}
+        files = {str(index): bytes(drawn_file(chance, index)) for index in range(500)}
         for name, data in {**samples(), **files}.items():
             with self.subTest(name):
                 try:

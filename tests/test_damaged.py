@@ -4,7 +4,7 @@ import random
 import shutil
 import unittest
 
-from support import CSVS, SAMPLE, SAMPLE_PLAN, Folder, damage, expected, load
+from support import COUNTED_SAMPLE, CSVS, SAMPLE, SAMPLE_PLAN, Folder, damage, expected, load
 
 import pigrozd
 import reference
@@ -13,8 +13,8 @@ FILES = 1000
 
 
 def damaged_sample(draw):
-    """The sample, cut or with a few bytes changed."""
-    data = bytearray(SAMPLE)
+    """The sample, with copies or without, cut or with a few bytes changed."""
+    data = bytearray(draw.choice((SAMPLE, COUNTED_SAMPLE)))
     if draw.random() < 0.3:
         del data[draw.randrange(len(data)) :]
     for _ in range(1 + draw.randrange(3)):
@@ -49,7 +49,7 @@ class Damaged(Folder):
         return status, out, err
 
     def test_packed_files(self):
-        draw = random.Random(11)
+        draw, seen = random.Random(11), set()
         self.write("good", SAMPLE)
         printed = reference.printed(SAMPLE).encode()
         for number in range(FILES):
@@ -57,6 +57,7 @@ class Damaged(Folder):
             file = self.write("file", data)
             with self.subTest(file=data.hex()):
                 answer = expected(data)
+                seen.add(answer[0])
                 status, out, err = self.ends("join", file)
                 if answer[0]:
                     self.assertIn("refused %d %d: " % answer, err)
@@ -69,7 +70,10 @@ class Damaged(Folder):
                 self.ends("rows", file, stdin=printed)
                 self.ends("rows", self.at("good"), stdin=damaged_text(printed, draw))
                 self.ends("unpack", "--force", file, self.at("folder"))
+                self.ends("count", file)
+                self.ends("view", file, "--row-numbers", "--rows", "5")
                 self.in_python(data, answer)
+        self.assertLessEqual({0, 1, 2, 3, 4, 7, 8, 9, 19}, seen)
 
     def in_python(self, data, answer):
         """The same file through the Python interface."""

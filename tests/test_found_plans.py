@@ -11,10 +11,10 @@ import subprocess
 import unittest
 from unittest import mock
 
-from support import CSVS, NO_PLAN, ROWS, SAMPLE, SAMPLE_PLAN, Folder
+from support import COUNTED_SAMPLE, CSVS, NO_PLAN, ROWS, SAMPLE, SAMPLE_PLAN, Folder, with_copies
 
 import pigrozd
-from pigrozd import commands, fileformat, finding, joining, library, mending, names, plans
+from pigrozd import commands, drawing, fileformat, finding, joining, library, mending, names, plans
 
 
 # ---- the rule and every plan, on masks
@@ -427,6 +427,31 @@ class Commands(Folder):
                 svg = subprocess.run(["dot", "-Tsvg"], input=text.encode(), stdout=subprocess.PIPE, check=True).stdout
                 self.assertIn(b"</svg>", svg)
 
+    def test_copies(self):
+        """A table with copies is drawn with its rows and their copies; a lookup is one of rows."""
+        here = self.write("counted", COUNTED_SAMPLE[:146] + NO_PLAN)
+        out, _ = self.command("plan", here)
+        for line in (
+            "|-- table2: 3 rows, 7 copies (a2, a3)",
+            "|     table2 (3 rows) looked up in table1 (4 rows)",
+            "    |-- table1: 4 rows (a1, a2)",
+            "    `-- table0: 4 rows, 15 copies (a0, a1)",
+            "scratch needed: 117 words",
+        ):
+            self.assertIn(line, out.splitlines())
+        dot, _ = self.command("plan", here, "--dot")
+        for label in ("table2\\n3 rows, 7 copies\\na2, a3", "table1\\n4 rows\\na1, a2"):
+            self.assertIn('[label="%s"];' % label, dot)
+        ring = pigrozd.make_file([{0: [1], 1: [1]}, {1: [1], 2: [1]}, {0: [1], 2: [1]}])
+        out, _ = self.command("plan", self.write("ring", with_copies(ring, [[1], [900], None])), status=1)
+        for line in ("table0: 1 row, 1 copy (a0, a1)", "table1: 1 row, 900 copies (a1, a2)", "table2: 1 row (a0, a2)"):
+            self.assertIn(line, out.splitlines())
+        counted = [plans.Shape([0], None, counted=True), plans.Shape([0], 3, counted=True, pairs=9)]
+        shapes = [*counted, plans.Shape([0], 2)]
+        drawn = "\n".join(drawing.drawing_without_plan(shapes, names.Names()).tree())
+        for told in ("table0: rows not known (a0)", "table1: 3 rows, 9 copies (a0)", "table2: 2 rows (a0)"):
+            self.assertIn(told, drawn)
+
     def test_join(self):
         self.assertEqual(self.command("join", *CSVS), (ROWS, ""))
         self.command("pack", self.at("out"), *CSVS)
@@ -455,7 +480,7 @@ class Commands(Folder):
     def test_the_command_that_is_named(self):
         """It takes names that begin with a dash, or have = in them, as files."""
         for path, word in {"-x.csv": "./-x.csv", "a=b.csv": "./a=b.csv", "a b.csv": "'a b.csv'"}.items():
-            self.assertEqual(commands.command_for_tables([path]), "pigrozd plan --tables " + word)
+            self.assertEqual(commands.command_for_tables([path], None), "pigrozd plan --tables " + word)
         path = self.write("a=b.csv", "x\n1\n")
         self.assertIn("a=b is the root", self.command("plan", "--tables", path)[0])
 

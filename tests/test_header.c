@@ -1,8 +1,8 @@
 /* Tests include/pigrozd.h as C99 and as C++ against the library: that each name of an answer is the number that is given under
  * its condition, that the limits are those at which answers change, that a plan is mended, or found where there is none, that a
  * value which was not recorded matches nothing, that the slow engine gives what the join gives, that a result is given by its
- * number and its number by its rows, that results are counted up to 2^64 - 1, and that the version is said alike
- * everywhere.
+ * number and its number by its rows and copies, that a row can have copies, that results are counted up to 2^64 - 1, and that
+ * the version is said alike everywhere.
  * make check-c runs it. It prints nothing and ends with 0, or prints each test that failed and ends with 1. */
 #include "pigrozd.h"
 
@@ -44,12 +44,24 @@ static void put_words(const uint32_t *words, unsigned count)
         put_word(words[i]);
 }
 
-static void put_table(uint32_t mask, uint32_t rows)
+static void put_head(char second, uint32_t mask, uint32_t rows)
 {
     put_byte('T');
-    put_byte('B');
+    put_byte((unsigned char)second);
     put_word(mask);
     put_word(rows);
+}
+
+static void put_table(uint32_t mask, uint32_t rows)
+{
+    put_head('B', mask, rows);
+}
+
+/* a table with copies, which are these; the columns of the attributes follow */
+static void put_counted(uint32_t mask, uint32_t rows, const uint32_t *copies)
+{
+    put_head('C', mask, rows);
+    put_words(copies, rows);
 }
 
 /* one column: 0, 1, and so on */
@@ -104,10 +116,10 @@ static unsigned count_tables(void)
     size_t at = 0;
     for (; file[at] == 'T'; tables++) {
         uint32_t rows = file[at + 6] | (uint32_t)file[at + 7] << 8;
-        unsigned ones = 0;
+        unsigned columns = file[at + 1] == 'C' ? 1 : 0;
         for (i = 0; i < 32; i++)
-            ones += file[at + 2 + i / 8] >> (i % 8) & 1;
-        at += 10 + 4 * ones * rows;
+            columns += file[at + 2 + i / 8] >> (i % 8) & 1;
+        at += 10 + 4 * columns * rows;
     }
     return tables;
 }
@@ -118,11 +130,12 @@ static uint32_t output[PIGROZD_MOST_OUTPUT_WORDS + 1];
 static uint32_t slow_output[PIGROZD_MOST_OUTPUT_WORDS + 1];
 static uint32_t row[PIGROZD_MOST_ATTRIBUTES];
 
-/* that result number n is the one that the join wrote, of so many values, and is found back by its rows */
+/* that result number n is the one that the join wrote, of so many values, and is found back by its rows and copies */
 static void expect_result(uint64_t n, size_t scratch_words, size_t width)
 {
+    const unsigned tables = count_tables();
     pigrozd_result_answer one = pigrozd_result_at(file, length, scratch, scratch_words, n, row, width);
-    pigrozd_number_answer back = pigrozd_number_of(file, length, scratch, scratch_words, one.rows, count_tables());
+    pigrozd_number_answer back = pigrozd_number_of(file, length, scratch, scratch_words, one.rows, tables, one.copies, tables);
 
     EXPECT(one.number, PIGROZD_JOINED);
     EXPECT(one.detail, 0);
@@ -132,13 +145,13 @@ static void expect_result(uint64_t n, size_t scratch_words, size_t width)
     EXPECT(back.n, n);
 }
 
-/* Beside the join, which gave this answer, the two functions for one result, without a row and without row numbers: up to 10 and
- * with 14 they give its number and detail. Past 10 such a row is too short, and so many are the row numbers of no result, unless
- * there are too many results. Of those that the join wrote, the first, one in the middle and the last are looked at. */
+/* Beside the join, which gave this answer, the two functions for one result, without a row, row numbers and copies: up to 10, with
+ * 14 and with 19 they give its number and detail. Past 10 such a row is too short, and so many are the row numbers of no result,
+ * unless there are too many results. Of those that the join wrote, the first, one in the middle and the last are looked at. */
 static void expect_single(pigrozd_answer given, size_t scratch_words)
 {
     pigrozd_result_answer one = pigrozd_result_at(file, length, scratch, scratch_words, 0, row, 0);
-    pigrozd_number_answer back = pigrozd_number_of(file, length, scratch, scratch_words, row, 0);
+    pigrozd_number_answer back = pigrozd_number_of(file, length, scratch, scratch_words, row, 0, row, 0);
     uint64_t width = one.detail;
 
     if (given.number != PIGROZD_JOINED && (given.number != PIGROZD_OUTPUT_SHORT || given.detail == PIGROZD_HOLD_LIMIT)) {
@@ -181,8 +194,8 @@ static pigrozd_answer lent(size_t scratch_words, size_t output_words)
         EXPECT(memcmp(slow_output, output, sizeof output), 0);
     }
     EXPECT(slow.number == PIGROZD_SCRATCH_SHORT, 0);
-    EXPECT(given.number >= PIGROZD_TOO_MANY_CHOICES, 0);
-    EXPECT(slow.number > PIGROZD_TOO_MANY_CHOICES, 0);
+    EXPECT(given.number >= PIGROZD_TOO_MANY_CHOICES && given.number != PIGROZD_COPIES_RANGE, 0);
+    EXPECT(slow.number > PIGROZD_TOO_MANY_CHOICES && slow.number != PIGROZD_COPIES_RANGE, 0);
     expect_single(given, scratch_words);
     return given;
 }
@@ -204,8 +217,12 @@ static void test_answers(void)
     length = 0;
     EXPECT_ANSWER(PIGROZD_CUT_OFF, 0);
     put_byte('T');
-    put_byte('C');
+    put_byte('D');
     EXPECT_ANSWER(PIGROZD_NO_RECORD, 0);
+    file[1] = 'C';
+    EXPECT_ANSWER(PIGROZD_CUT_OFF, 0);
+    file[1] = 'B';
+    EXPECT_ANSWER(PIGROZD_CUT_OFF, 0);
 
     put_tables(2, 3);
     EXPECT_ANSWER(PIGROZD_JOINED, 0);
@@ -594,12 +611,13 @@ static void put_sample(const char *code, unsigned bytes)
 /* that after this answer so many words of scratch are zero past 10, and else as they were; and those behind them in any case */
 static void expect_scratch(uint64_t number, size_t words)
 {
-    int past_10 = number == PIGROZD_JOINED || (number > PIGROZD_SCRATCH_SHORT && number != PIGROZD_NO_PLAN_FOUND);
+    int past_10 = number == PIGROZD_JOINED
+                  || (number > PIGROZD_SCRATCH_SHORT && number != PIGROZD_NO_PLAN_FOUND && number != PIGROZD_COPIES_RANGE);
     EXPECT(is_filled(scratch, words, past_10 ? 0 : 0xa5), 1);
     EXPECT(is_filled(scratch + words, PIGROZD_MOST_SCRATCH_WORDS - words, 0xa5), 1);
 }
 
-/* result number n. A refusal gives no row numbers and leaves the row as it was */
+/* result number n. A refusal gives no row numbers and no copies, and leaves the row as it was */
 static pigrozd_result_answer result_lent(size_t scratch_words, uint64_t n, size_t row_words)
 {
     pigrozd_result_answer given;
@@ -612,18 +630,22 @@ static pigrozd_result_answer result_lent(size_t scratch_words, uint64_t n, size_
     if (given.number != PIGROZD_JOINED) {
         EXPECT(is_filled(row, PIGROZD_MOST_ATTRIBUTES, 0x5a), 1);
         for (i = 0; i < PIGROZD_MOST_TABLES; i++)
-            EXPECT(given.rows[i], 0);
+            EXPECT(given.rows[i] + given.copies[i], 0);
     }
     return given;
 }
 
+/* copy 0 of each row */
+static const uint32_t first_copies[PIGROZD_MOST_TABLES] = {0};
+
 /* the way back. A refusal gives 0 as n */
-static pigrozd_number_answer number_lent(size_t scratch_words, const uint32_t *rows, size_t count)
+static pigrozd_number_answer number_lent(size_t scratch_words, const uint32_t *rows, size_t rows_count, const uint32_t *copies,
+                                         size_t copies_count)
 {
     pigrozd_number_answer given;
 
     memset(scratch, 0xa5, sizeof scratch);
-    given = pigrozd_number_of(file, length, scratch, scratch_words, rows, count);
+    given = pigrozd_number_of(file, length, scratch, scratch_words, rows, rows_count, copies, copies_count);
     expect_scratch(given.number, scratch_words);
     if (given.number != PIGROZD_JOINED)
         EXPECT(given.n, 0);
@@ -637,18 +659,22 @@ static pigrozd_number_answer number_lent(size_t scratch_words, const uint32_t *r
         EXPECT(given.detail, wanted_detail); \
     } while (0)
 
-#define EXPECT_NUMBER(scratch_words, rows, count, wanted_number, wanted_detail, wanted_n) \
+#define EXPECT_NUMBER_OF_COPIES(scratch_words, rows, count, copies, copies_count, wanted_number, wanted_detail, wanted_n) \
     do { \
-        pigrozd_number_answer given = number_lent(scratch_words, rows, count); \
+        pigrozd_number_answer given = number_lent(scratch_words, rows, count, copies, copies_count); \
         EXPECT(given.number, wanted_number); \
         EXPECT(given.detail, wanted_detail); \
         EXPECT(given.n, wanted_n); \
     } while (0)
 
-/* that result number n has these values and, by table number, these rows; and that these rows have the number n. The words of the
- * row behind the values are as they were, and the places behind the last table are 0 */
-static void expect_there_and_back(size_t scratch_words, uint64_t n, const uint32_t *values, unsigned width, const uint32_t *rows,
-                                  unsigned tables)
+/* of copy 0 of each row */
+#define EXPECT_NUMBER(scratch_words, rows, count, wanted_number, wanted_detail, wanted_n) \
+    EXPECT_NUMBER_OF_COPIES(scratch_words, rows, count, first_copies, count, wanted_number, wanted_detail, wanted_n)
+
+/* that result number n has these values and, by table number, these rows and copies; and that these have the number n. The words
+ * of the row behind the values are as they were, and the places behind the last table are 0 */
+static void expect_pairs(size_t scratch_words, uint64_t n, const uint32_t *values, unsigned width, const uint32_t *rows,
+                         const uint32_t *copies, unsigned tables)
 {
     pigrozd_result_answer given = result_lent(scratch_words, n, width + 1);
     unsigned i;
@@ -657,9 +683,18 @@ static void expect_there_and_back(size_t scratch_words, uint64_t n, const uint32
     EXPECT(given.detail, 0);
     EXPECT(memcmp(row, values, 4 * width), 0);
     EXPECT(is_filled(row + width, PIGROZD_MOST_ATTRIBUTES - width, 0x5a), 1);
-    for (i = 0; i < PIGROZD_MOST_TABLES; i++)
+    for (i = 0; i < PIGROZD_MOST_TABLES; i++) {
         EXPECT(given.rows[i], i < tables ? rows[i] : 0);
-    EXPECT_NUMBER(scratch_words, rows, tables, PIGROZD_JOINED, 0, n);
+        EXPECT(given.copies[i], i < tables ? copies[i] : 0);
+    }
+    EXPECT_NUMBER_OF_COPIES(scratch_words, rows, tables, copies, tables, PIGROZD_JOINED, 0, n);
+}
+
+/* that, of tables without copies: each copy is 0 */
+static void expect_there_and_back(size_t scratch_words, uint64_t n, const uint32_t *values, unsigned width, const uint32_t *rows,
+                                  unsigned tables)
+{
+    expect_pairs(scratch_words, n, values, width, rows, first_copies, tables);
 }
 
 /* results of the sample by their numbers, and back */
@@ -740,6 +775,104 @@ static void test_no_result(void)
     EXPECT_NUMBER(21, zeros, 2, PIGROZD_NOT_A_RESULT, 0, 0);
 }
 
+/* ---- copies */
+
+/* one row with so many copies, behind a table without copies and before another one; where it begins */
+static uint64_t put_one_count(uint32_t copies)
+{
+    uint64_t at;
+    length = 0;
+    put_table(1, 1);
+    put_word(7);
+    at = length;
+    put_counted(1, 1, &copies);
+    put_word(7);
+    put_table(1, 1);
+    put_word(7);
+    put_plan("\377\0\377\1\2", 5);
+    return at;
+}
+
+/* how many copies a row can have: 19 else, before the next record is looked at, and behind a record that is cut */
+static void test_copies_range(void)
+{
+    static const uint32_t within[] = {1, 2, PIGROZD_MOST_COPIES};
+    static const uint32_t outside[] = {0, PIGROZD_MOST_COPIES + 1, 1u << 31, PIGROZD_NOT_RECORDED};
+    unsigned i;
+
+    EXPECT(PIGROZD_COPIES_RANGE, 19);
+    EXPECT(PIGROZD_MOST_COPIES, 65535);
+    for (i = 0; i < 3; i++) {
+        put_one_count(within[i]);
+        EXPECT(answer().number, PIGROZD_JOINED);
+        EXPECT(answer().rows, within[i]);
+    }
+    for (i = 0; i < 4; i++) {
+        uint64_t at = put_one_count(outside[i]);
+        EXPECT_ANSWER(PIGROZD_COPIES_RANGE, at);
+        EXPECT(lent(0, 0).number, PIGROZD_COPIES_RANGE);
+        EXPECT_RESULT(0, 0, 0, PIGROZD_COPIES_RANGE, at);
+        EXPECT_NUMBER(0, first_copies, 3, PIGROZD_COPIES_RANGE, at, 0);
+        file[at + 18] = 'X';
+        EXPECT_ANSWER(PIGROZD_COPIES_RANGE, at);
+        length = at + 18;
+        EXPECT_ANSWER(PIGROZD_COPIES_RANGE, at);
+        length = at + 17;
+        EXPECT_ANSWER(PIGROZD_CUT_OFF, at);
+        length = at + 13;
+        EXPECT_ANSWER(PIGROZD_CUT_OFF, at);
+    }
+}
+
+/* Two tables of attribute 0, whose rows have copies: pairs of a row and a copy are chosen, the first table's change last. The
+ * values of the first one are 7 8 7, of the second one 7 8. */
+static void test_copies(void)
+{
+    static const uint32_t first[] = {2, 1, 1, 7, 8, 7}, second[] = {1, 3, 7, 8};
+    static const uint32_t values[] = {7, 7, 8, 8, 8, 7}, rows[][2] = {{0, 0}, {0, 0}, {1, 1}, {1, 1}, {1, 1}, {2, 0}};
+    static const uint32_t copies[][2] = {{0, 0}, {1, 0}, {0, 0}, {0, 1}, {0, 2}, {0, 0}};
+    static const uint32_t wrong[][2] = {{2, 0}, {0, 1}, {0, 3}, {PIGROZD_NOT_RECORDED, 0}, {1, PIGROZD_MOST_COPIES}};
+    static const uint32_t second_copies[] = {0, 1, 0};
+    pigrozd_answer given;
+    unsigned n;
+
+    length = 0;
+    put_counted(1, 3, first);
+    put_words(first + 3, 3);
+    put_counted(1, 2, second);
+    put_words(second + 2, 2);
+    put_plan("\377\0\1", 3);
+
+    /* IN is 5: the scratch is that of 5 rows */
+    EXPECT(lent(52, 6).number, PIGROZD_SCRATCH_SHORT);
+    EXPECT(lent(52, 6).detail, 53);
+    EXPECT(lent(53, 5).number, PIGROZD_OUTPUT_SHORT);
+    EXPECT(lent(53, 5).detail, 6);
+    given = lent(53, 6);
+    EXPECT(given.number, PIGROZD_JOINED);
+    EXPECT(given.rows, 6);
+    EXPECT(given.visits, 10); /* both tables for 4 of the results, and the second one alone for 2 */
+    EXPECT(memcmp(output, values, sizeof values), 0);
+    for (n = 0; n < 6; n++)
+        expect_pairs(53, n, &values[n], 1, rows[n], copies[n], 2);
+    EXPECT_RESULT(53, 6, 1, PIGROZD_NO_SUCH_RESULT, 6);
+
+    /* a copy that a row does not have, and copies that are not one for each table */
+    for (n = 0; n < 5; n++)
+        EXPECT_NUMBER_OF_COPIES(53, rows[0], 2, wrong[n], 2, PIGROZD_NOT_A_RESULT, 0, 0);
+    for (n = 0; n <= PIGROZD_MOST_TABLES; n++)
+        if (n != 2)
+            EXPECT_NUMBER_OF_COPIES(53, rows[0], 2, first_copies, n, PIGROZD_NOT_A_RESULT, 0, 0);
+    EXPECT_NUMBER_OF_COPIES(53, rows[0], 2, first_copies, 2, PIGROZD_JOINED, 0, 0);
+    EXPECT_NUMBER_OF_COPIES(53, rows[0], 1, first_copies, 2, PIGROZD_NOT_A_RESULT, 0, 0);
+    EXPECT_NUMBER_OF_COPIES(53, rows[0], 2, first_copies, 1, PIGROZD_NOT_A_RESULT, 0, 0);
+
+    /* a row of a table without copies has copy 0 alone */
+    put_sample("\377\0\377\1\2", 5);
+    EXPECT_NUMBER_OF_COPIES(118, first_copies, 3, first_copies, 3, PIGROZD_JOINED, 0, 0);
+    EXPECT_NUMBER_OF_COPIES(118, first_copies, 3, second_copies, 3, PIGROZD_NOT_A_RESULT, 0, 0);
+}
+
 /* ---- many results */
 
 /* the number of results, by an output of no words */
@@ -807,6 +940,43 @@ static void test_counted(void)
     expect_results((uint64_t)1 << 60);
     put_apart(most, 6, "\377\0\377\1\377\2\377\3\377\4\5", 11);
     expect_too_many();
+}
+
+/* The slow engine multiplies the sums of copies: 1,024 by 1,024, and one more. Five tables of 65,535 copies have more results than
+ * have numbers, and four have fewer. */
+static void test_many_copies(void)
+{
+    static const uint32_t most[] = {1000, 24}, past[] = {1000, 25}, all[] = {PIGROZD_MOST_COPIES};
+    unsigned i, tables;
+
+    for (i = 0; i < 2; i++) {
+        length = 0;
+        put_counted(1, 2, most);
+        put_word(7);
+        put_word(7);
+        put_counted(1, 2, i == 0 ? most : past);
+        put_word(7);
+        put_word(7);
+        put_plan("\377\0\1", 3);
+        if (i == 0)
+            EXPECT_SLOW(0, PIGROZD_OUTPUT_SHORT, PIGROZD_MOST_CHOICES, 0);
+        else
+            EXPECT_SLOW(0, PIGROZD_TOO_MANY_CHOICES, 0, 0);
+    }
+    for (tables = 4; tables <= 5; tables++) {
+        uint64_t results = 1;
+        length = 0;
+        for (i = 0; i < tables; i++) {
+            put_counted(1, 1, all);
+            put_word(7);
+            results *= PIGROZD_MOST_COPIES;
+        }
+        put_rising_plan(tables, 1);
+        if (tables == 4)
+            expect_results(results);
+        else
+            expect_too_many();
+    }
 }
 
 /* how many rows of a key a table of put_powers has */
@@ -979,10 +1149,11 @@ static void test_lengths(void)
     EXPECT(sizeof(size_t), 8);
     EXPECT(sizeof(pigrozd_answer), 56);
     EXPECT(sizeof(pigrozd_slow_answer), 24);
-    EXPECT(sizeof(pigrozd_result_answer), 80);
+    EXPECT(sizeof(pigrozd_result_answer), 144);
     EXPECT(offsetof(pigrozd_result_answer, number), 0);
     EXPECT(offsetof(pigrozd_result_answer, detail), 8);
     EXPECT(offsetof(pigrozd_result_answer, rows), 16);
+    EXPECT(offsetof(pigrozd_result_answer, copies), 80);
     EXPECT(sizeof(pigrozd_number_answer), 24);
     EXPECT(offsetof(pigrozd_number_answer, number), 0);
     EXPECT(offsetof(pigrozd_number_answer, detail), 8);
@@ -1007,7 +1178,10 @@ int main(void)
     test_slow();
     test_one_result();
     test_no_result();
+    test_copies_range();
+    test_copies();
     test_counted();
+    test_many_copies();
     test_most_results();
     test_held_group();
     test_large_groups();

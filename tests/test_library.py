@@ -9,7 +9,7 @@ import subprocess
 import sys
 import unittest
 
-from support import SAMPLE, TOP, load, path
+from support import COUNTED_SAMPLE, SAMPLE, TOP, drawn_copies, load, path, with_copies
 
 import pigrozd
 import reference
@@ -60,14 +60,17 @@ class Calls(unittest.TestCase):
             unchanged = scratch == words(BEFORE) * scratch_words
             self.assertTrue(unchanged or not any(scratch))
             left = "empty" if not scratch else "unchanged" if unchanged else "zero"
-            rows = " ".join(map(str, answer.rows))
-            text += "result %d: %d %d, rows %s, scratch %s, " % (n, answer.number, answer.detail, rows, left)
-            text += self.written(row, 0 if answer.number else width)
+            rows, copies = (" ".join(map(str, numbers)) for numbers in (answer.rows, answer.copies))
+            text += "result %d: %d %d, rows %s, copies %s, " % (n, answer.number, answer.detail, rows, copies)
+            text += "scratch %s, " % left + self.written(row, 0 if answer.number else width)
             if answer.number:
-                text += ", back %d %d\n" % pigrozd.call_number_of(file, scratch, [])[:2]
+                text += ", back %d %d\n" % pigrozd.call_number_of(file, scratch, [], [])[:2]
             else:
-                back = [pigrozd.call_number_of(file, scratch, answer.rows[:k]) for k in range(17)]
-                text += ", back by" + "".join(" %d" % k for k in range(17) if back[k] == (0, 0, n)) + "\n"
+                text += ", back by"
+                for k in range(17):
+                    back = pigrozd.call_number_of(file, scratch, answer.rows[:k], answer.copies[:k])
+                    text += " %d" % k if back == (0, 0, n) else ""
+                text += "\n"
             if answer.number == 16:
                 count = answer.detail
             if count == 0:
@@ -91,12 +94,11 @@ class Calls(unittest.TestCase):
         self.assertEqual("".join(text).splitlines(), load("crates", "samples", "stdout").decode().splitlines())
 
     def test_random_files(self):
-        """400 small files, whole and damaged, against the independent join. In every second one values are missing,
-        and every third has no plan."""
-        chance, numbers, missing = random.Random(7), collections.Counter(), 0
-        for index in range(400):
-            tables, plan = drawn_tables(chance, 0.2 * (index % 2))
-            file = bytearray(pigrozd.make_file(tables, plan if index % 3 else None))
+        """600 small files, whole and damaged, against the independent join. In every second one values are missing,
+        every third has no plan, and in three of four some tables have copies."""
+        chance, numbers, missing, counted = random.Random(7), collections.Counter(), 0, collections.Counter()
+        for index in range(600):
+            file = drawn_file(chance, index)
             if chance.random() < 0.3:
                 file[chance.randrange(len(file))] = chance.choice((0, 1, 2, 255))
             scratch, output = chance.choice((1000, 40)), chance.choice((300, 12))
@@ -107,14 +109,18 @@ class Calls(unittest.TestCase):
                 fault = fileformat.read(bytes(file)).fault
                 self.assertEqual(
                     (fault.number, fault.detail) if fault else (0, 0),
-                    (number, detail) if number <= 9 or number == 14 else (0, 0),
+                    (number, detail) if number <= 9 or number in (14, 19) else (0, 0),
                 )
             numbers[number] += 1
             missing += number == 0 and reference.NOT_RECORDED.to_bytes(4, "little") in file
-        self.assertGreater(numbers[0], 50)
+            counted[number] += b"TC" in file
+        self.assertGreater(numbers[0], 100)
         self.assertGreater(numbers[14], 3)
-        self.assertGreater(len(numbers), 7)
+        self.assertGreater(numbers[19], 3)
+        self.assertGreater(len(numbers), 8)
         self.assertGreater(missing, 50)
+        self.assertGreater(counted[0], 80)
+        self.assertGreater(counted[11], 10)
 
     def test_buffers(self):
         good = words(*range(100))
@@ -147,9 +153,105 @@ class Calls(unittest.TestCase):
         self.assertEqual((answer, both), ((0, 0, 4, 6, 8, 19, 10), words(*VALUES) + words(0) * NEED))
 
     def test_no_word_lent_is_no_null_pointer(self):
-        lent, count = library.lent(words())
-        self.assertEqual(count, 0)
-        self.assertNotEqual(ctypes.addressof(lent), 0)
+        for lent, count in (library.lent(words()), library.given_words([], "a row number")):
+            self.assertEqual(count, 0)
+            self.assertNotEqual(ctypes.addressof(lent), 0)
+
+
+class Copies(unittest.TestCase):
+    """Tables with copies: how many copies a row can have, and what a file with them must hold."""
+
+    def answer(self, data, scratch_words=2000, output_words=0):
+        """Number and detail, which are those of the reference; as those of the slow engine where it says no 15."""
+        answer = pigrozd.call(data, words(0) * scratch_words, words(0) * output_words)
+        self.assertEqual(answer[:2], reference.outcome(data, scratch_words, output_words)[:2])
+        slow = pigrozd.call_slow(data, words(0) * output_words)
+        if slow.number != 15 and answer.number != 10:
+            self.assertEqual(answer[:3], slow)
+        return answer[:2]
+
+    def test_how_many(self):
+        """A row has 1 to 65,535 copies, whichever row of whichever table it is; 19 has the offset of the mark."""
+        one = pigrozd.make_file([{0: [5], 1: [6]}, {0: [5, 5, 5]}], (0, 1))
+        second = 10 + 4 * 3  # where the second record begins if the first has copies
+        for copies, number in ((0, 19), (1, 11), (2, 11), (65535, 11), (65536, 19), (2**31, 19), (2**32 - 1, 19)):
+            detail = {19: 0, 11: 3 * copies}[number]
+            self.assertEqual(self.answer(with_copies(one, [[copies], None])), (number, detail))
+            for row in range(3):
+                given = [7, 7, 7]
+                given[row] = copies
+                detail = {19: second, 11: 14 + copies}[number]
+                self.assertEqual(self.answer(with_copies(one, [[1], given])), (number, detail))
+
+    def test_cut(self):
+        """Wherever the file ends, in the copies or in the columns behind them, it is cut; also if a count is wrong."""
+        for copies in ([2, 3], [0, 3]):
+            whole = with_copies(pigrozd.make_file([{0: [5, 6], 1: [7, 8]}, {0: [5]}], (0, 1)), [copies, [1]])
+            for end in range(34):
+                self.assertEqual(self.answer(whole[:end]), (1, 0))
+            self.assertEqual(self.answer(whole[:34]), (19, 0) if 0 in copies else (1, 34))
+            self.assertEqual(self.answer(whole[:45]), (19, 0) if 0 in copies else (1, 34))
+
+    def test_order_of_answers(self):
+        """5, 1, 3, 4, 1 and 19 of a record; and all of them before the next record is looked at."""
+        wrong = with_copies(pigrozd.make_file([{0: [5, 6]}]), [[0, 70000]])[:-3]
+        plain = pigrozd.make_file([{0: [5]}])[:-3]
+        self.assertEqual(self.answer(plain * 16 + b"TC"), (5, 16 * len(plain)))
+        self.assertEqual(self.answer(plain * 15 + wrong), (19, 15 * len(plain)))
+        self.assertEqual(self.answer(plain + b"TC" + bytes(7)), (1, len(plain)))
+        self.assertEqual(self.answer(plain + b"TC" + bytes(8)), (3, len(plain)))
+        self.assertEqual(self.answer(plain + b"TC\xff\1\0\0" + b"\1\x10\0\0"), (3, len(plain)))
+        self.assertEqual(self.answer(plain + b"TC\1\0\0\0" + b"\1\x10\0\0"), (4, len(plain)))
+        for behind in (b"", b"T", b"XX", b"TB", b"PL", b"PL\0", b"PL\0\0", b"PL\1\xff", wrong):
+            self.assertEqual(self.answer(wrong + behind), (19, 0))
+            self.assertEqual(self.answer(plain + wrong + behind), (19, len(plain)))
+
+    def test_marks(self):
+        """54 43 is a mark; others that are near to it are none."""
+        for mark in (b"TA", b"TD", b"SC", b"UC", b"CT", b"tc", b"Tc", b"tC", b"PC", b"CL"):
+            self.assertEqual(self.answer(mark + COUNTED_SAMPLE[2:]), (2, 0))
+
+    def test_rows_decide_the_scratch(self):
+        """However many copies there are, the scratch needed is that of the rows."""
+        many = with_copies(SAMPLE, [[65535] * 4, [65535] * 4, [65535] * 3])
+        for data in (SAMPLE, COUNTED_SAMPLE, many):
+            self.assertEqual(self.answer(data, NEED - 1), (10, NEED))
+            self.assertEqual(self.answer(data, NEED)[0], 11)
+        self.assertEqual(self.answer(many), (11, 4 * 65535**3))
+
+    def test_no_rows(self):
+        """A table with copies and no rows has no copies either."""
+        data = with_copies(pigrozd.make_file([{0: []}, {0: [5]}]), [[], [65535]])
+        self.assertEqual(self.answer(data), (0, 0))
+        self.assertEqual(self.answer(with_copies(pigrozd.make_file([{0: []}]), [[]]), 0), (0, 0))
+
+    def test_as_rows_sent_so_often(self):
+        """A file with copies has the results of the one that sends each row as often, in the same order, with the same
+        visits. Both have no plan, as rows decide how one is mended."""
+        chance, compared = random.Random(47), 0
+        for _ in range(300):
+            tables, _ = drawn_tables(chance, 0.1)
+            copies = [[chance.randint(1, 3) for _ in next(iter(table.values()))] for table in tables]
+            often = [
+                {a: [value for value, n in zip(column, given) for _ in range(n)] for a, column in table.items()}
+                for table, given in zip(tables, copies)
+            ]
+            told = []
+            for data in (with_copies(pigrozd.make_file(tables), copies), pigrozd.make_file(often)):
+                output = words(BEFORE) * 20000
+                answer = pigrozd.call(data, words(0) * 2000, output)
+                told.append((answer.number, answer.detail, answer.rows, answer.visits, output))
+            self.assertEqual(*told)
+            compared += told[0][2] > 0
+        self.assertGreater(compared, 80)
+
+
+def drawn_file(chance, index):
+    """The bytes of a drawn file. In every second one values are missing, every third has no plan, and in three of four
+    some tables have copies."""
+    tables, plan = drawn_tables(chance, 0.2 * (index % 2))
+    data = pigrozd.make_file(tables, plan if index % 3 else None)
+    return bytearray(drawn_copies(data, chance) if chance.random() < 0.75 else data)
 
 
 def drawn_tables(chance, missing):
@@ -180,10 +282,12 @@ class Loading(unittest.TestCase):
         wanted = {
             "pigrozd_answer": pigrozd.Answer._fields,
             "pigrozd_slow_answer": pigrozd.SlowAnswer._fields,
-            "pigrozd_result_answer": ("number", "detail"),
+            "pigrozd_result_answer": pigrozd.ResultAnswer._fields[:2],
             "pigrozd_number_answer": pigrozd.NumberAnswer._fields,
         }
         self.assertEqual(fields, wanted)
+        arrays = re.findall(r"^    uint32_t (\w+)\[PIGROZD_MOST_TABLES\];", structs["pigrozd_result_answer"], re.M)
+        self.assertEqual(tuple(arrays), pigrozd.ResultAnswer._fields[2:])
         self.assertEqual(ctypes.sizeof(library.AnswerStruct), 56)
         self.assertEqual(ctypes.sizeof(library.SlowAnswerStruct), 24)
 

@@ -6,7 +6,7 @@ import re
 import unittest
 from unittest import mock
 
-from support import CSVS, Folder, SAMPLE_DRAWN, load
+from support import CSVS, Folder, SAMPLE_DRAWN, drawn_copies, load
 
 import pigrozd
 import reference
@@ -187,6 +187,23 @@ class Library(unittest.TestCase):
             self.assertEqual((again.columns, again.counts, again.mended), (result.columns, result.counts, False))
             done += result.mended and result.rows > 1
         self.assertGreater(done, 30)
+
+    def test_copies_decide_nothing(self):
+        """A plan is mended by rows, and the scratch is that of rows, however many copies these have."""
+        draw, done = random.Random(7), 0
+        for shapes, code in drawn(8, 400, 5, 4):
+            tables = [{a: [draw.randint(0, 1) for _ in range(s.rows)] for a in s.attributes} for s in shapes]
+            plain = pigrozd.make_file(tables, code)
+            counted = drawn_copies(plain, draw)
+            self.assertEqual(answer(counted), answer(plain))
+            if plans.check(code, shapes, names.Names()):
+                continue
+            result = pigrozd.join_file(counted)
+            self.assertEqual((0, result.plan_bytes), by_reference(shapes, code))
+            _, _, rows, counts = reference.outcome(counted, 10000, 10**6)
+            self.assertEqual(([tuple(row) for row in rows], counts), (list(result), result.counts))
+            done += result.mended and counted != plain and result.rows > 1
+        self.assertGreater(done, 20)
 
 
 def answer(file):

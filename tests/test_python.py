@@ -424,7 +424,8 @@ class Refusals(unittest.TestCase):
         rows = re.findall(
             r"^\| \[(\d+)\]\(\d+\.md\) \| (.*?) \| (.*?) \|", load("docs", "answers", "README.md").decode(), re.M
         )
-        self.assertEqual(pigrozd.MEANINGS, {int(number): (means, detail) for number, means, detail in rows})
+        told = {number: (meaning.means, meaning.detail) for number, meaning in pigrozd.MEANINGS.items()}
+        self.assertEqual(told, {int(number): (means, detail) for number, means, detail in rows})
         for number in pigrozd.MEANINGS:
             self.assertTrue(os.path.exists(path("docs", "answers", "%02d.md" % number)))
 

@@ -12,8 +12,9 @@ import types
 import unittest
 from unittest import mock
 
-from support import ACCEPT, CSVS, ROWS, SAMPLE, SAMPLE_PLAN, TOP, Folder, damaged, load, needs_accept, samples
-from test_library import BEFORE, VALUES, drawn_tables, words
+from support import ACCEPT, COUNTED_SAMPLE, CSVS, ROWS, SAMPLE, SAMPLE_PLAN, TOP
+from support import Folder, damaged, drawn_copies, load, needs_accept, samples, with_copies
+from test_library import BEFORE, VALUES, drawn_file, drawn_tables, words
 
 import pigrozd
 import reference
@@ -82,25 +83,28 @@ class Files(Engine):
         self.assertEqual((answer, output), ((0, 0, 4), words(*VALUES, BEFORE)))
 
     def test_random_files(self):
-        """600 small files, whole and damaged. In every second one values are missing, and every third has no plan."""
-        chance, numbers, missing, mended = random.Random(11), collections.Counter(), 0, 0
-        for index in range(600):
-            tables, plan = drawn_tables(chance, 0.2 * (index % 2))
-            file = bytearray(pigrozd.make_file(tables, plan if index % 3 else None))
+        """800 small files, whole and damaged. In every second one values are missing, every third has no plan, and in
+        three of four some tables have copies."""
+        chance, numbers, missing, mended, counted = random.Random(11), collections.Counter(), 0, 0, 0
+        for index in range(800):
+            file = drawn_file(chance, index)
             if chance.random() < 0.3:
                 file[chance.randrange(len(file))] = chance.choice((0, 1, 2, 255))
-            number = self.check(file, chance.choice((300, 12, 0)), chance.choice((1000, 40))).number
+            few = choices(bytes(file)) < 50000
+            number = self.check(file, chance.choice((300, 12, 0)), chance.choice((1000, 40)), few).number
             numbers[number] += 1
+            counted += number in (0, 11) and fileformat.read(bytes(file)).is_counted()
             if number == 0:
                 missing += reference.NOT_RECORDED.to_bytes(4, "little") in file
                 read = fileformat.read(bytes(file))
                 mended += bool(read.plan) and read.mended.code != read.code
         self.assertGreater(numbers[0], 80)
         self.assertGreater(numbers[11], 30)
-        for number in (1, 2, 3, 7, 8, 9, 14):
+        for number in (1, 2, 3, 7, 8, 9, 14, 19):
             self.assertGreater(numbers[number], 0, number)
         self.assertGreater(missing, 50)
         self.assertGreater(mended, 20)
+        self.assertGreater(counted, 100)
 
     def test_damaged_samples(self):
         seen = collections.Counter(self.check(data, 300).number for data in damaged(700) if choices(data) < 20000)
@@ -112,7 +116,7 @@ class Files(Engine):
         for data in samples().values():
             few = choices(data) < 20000
             seen[self.check(data, 300, 70000, few or fileformat.read(data).fault is not None).number] += 1
-        self.assertEqual(set(seen), {0, 1, 2, 3, 4, 5, 6, 7, 8, 9, 11, 14, 15})
+        self.assertEqual(set(seen), {0, 1, 2, 3, 4, 5, 6, 7, 8, 9, 11, 14, 15, 19})
         self.assertGreater(seen[15], 15)
 
     def test_every_length_of_output(self):
@@ -120,10 +124,11 @@ class Files(Engine):
         draw = random.Random(3)
         files = [SAMPLE, SAMPLE[:121] + bytes([255, 0, 255, 2, 1]), SAMPLE[:118] + b"PL\0"]
         files += [pigrozd.make_file(*drawn_tables(draw, 0.1)) for _ in range(150)]
+        files += [COUNTED_SAMPLE, *(drawn_copies(file, draw) for file in files[-20:])]
         tried = 0
         for file in files:
             number, _, rows = reference.slow_outcome(file, 100000)
-            if number or not rows:
+            if number or not 0 < len(rows) < 100:
                 continue
             need = sum(map(len, rows))
             for output_words in range(need + 4):
@@ -146,7 +151,7 @@ class Files(Engine):
 
 
 class Limit(Engine):
-    """15 exactly if the product of all row counts is more than 1,048,576."""
+    """15 exactly if the product of all row counts, or of all copies where tables have them, is more than 1,048,576."""
 
     def answer(self, tables, plan=None, output_words=300, by_reference=False):
         return self.check(pigrozd.make_file(tables, plan), output_words, 600000, by_reference)
@@ -185,6 +190,51 @@ class Limit(Engine):
                 with self.subTest(others=others, place=place):
                     self.assertEqual(self.answer(tables, None, 0), (0, 0, 0))
         self.assertEqual(self.answer([{0: []}], None, 0), (0, 0, 0))
+
+    def counted(self, *copies, output_words=300):
+        """The answer for tables of one value, with these copies of their rows: every choice agrees."""
+        data = with_copies(pigrozd.make_file(sevens(*map(len, copies))), copies)
+        return self.check(data, output_words, 600000, False)
+
+    def test_copies_at_the_limit(self):
+        """The copies of a table are added up, and the sums are multiplied."""
+        for copies in (([1024], [1024]), ([1000, 24], [1, 1023]), ([65535, 1], [16]), ([2] * 16, [32768])):
+            self.assertEqual(self.counted(*copies), (11, MOST, 0))
+        self.assertEqual(self.counted([65535] * 16), (11, 65535 * 16, 0))
+        self.assertEqual(self.counted([65535] * 16 + [16]), (11, MOST, 0))
+        self.assertEqual(self.counted([256] * 4096), (11, MOST, 0))
+        self.assertEqual(self.counted([1] * 4096, [255, 1]), (11, MOST, 0))
+        few = pigrozd.make_file([{0: [7, 8]}, {0: [9, 8]}], (0, 1))
+        few = with_copies(few, [[1022, 2], [1020, 4]])
+        self.assertEqual(self.check(few, 300), (0, 0, 8))
+        self.assertEqual(self.check(few, 7), (11, 8, 0))
+
+    def test_copies_past_the_limit(self):
+        for copies in (
+            ([61681], [17]),
+            ([1024], [1000, 25]),
+            ([65535] * 16 + [17],),
+            ([256] * 4095 + [257],),
+            ([65535], [17]),
+            ([65535], [65535]),
+            ([32768, 32768], [65535, 1]),
+            ([65535] * 4096,) * 16,
+        ):
+            for output_words in (0, 300):
+                self.assertEqual(self.counted(*copies, output_words=output_words), (15, 0, 0))
+
+    def test_rows_within_the_limit_and_copies_past_it(self):
+        """The copies decide and not the rows: also of one table alone."""
+        data = pigrozd.make_file([column(1024), column(1024, 1022)], (0, 1))
+        self.assertEqual(self.check(data, 300, 600000, False), (0, 0, 2))
+        self.assertEqual(self.check(with_copies(data, [None, [1] * 1024]), 300, 600000, False), (0, 0, 2))
+        self.assertEqual(self.check(with_copies(data, [None, [1] * 1023 + [2]]), 300, 600000, False), (15, 0, 0))
+        self.assertEqual(self.check(with_copies(data, [[2] + [1] * 1023, None]), 300, 600000, False), (15, 0, 0))
+
+    def test_copies_and_a_table_of_no_rows(self):
+        """The product is 0."""
+        for copies in (([], [65535], [65535]), ([65535] * 16, [], [65535] * 2), ([65535], [65535], [])):
+            self.assertEqual(self.counted(*copies), (0, 0, 0))
 
     def test_one_table(self):
         self.assertEqual(self.answer([column(4096)], None, 4096, True), (0, 0, 4096))
@@ -294,6 +344,18 @@ class FromPython(Folder):
         )
         self.assertEqual(pigrozd.join([column(1025), column(2), column(1024)]).rows, 2)
 
+    def test_too_many_choices_of_copies(self):
+        data = with_copies(pigrozd.make_file(sevens(2, 1, 3)), [[65535, 1], None, [15, 1, 1]])
+        with self.assertRaises(pigrozd.Refused) as caught:
+            pigrozd.join_file(data, engine="slow")
+        self.assertEqual(
+            str(caught.exception),
+            "refused 15 0: more choices than the slow engine goes through: one copy of one row of each table makes "
+            "65,536 * 1 * 17 = 1,114,112 choices, and the slow engine goes through 1,048,576 at most; give it fewer "
+            "rows or copies, or leave the tables to the join",
+        )
+        self.assertEqual(pigrozd.count_file(data).results, 1114112)
+
     def test_files(self):
         self.assertEqual(list(pigrozd.join_file(SAMPLE, engine="slow")), list(pigrozd.join_file(SAMPLE)))
         self.command("pack", self.at("out"), *CSVS)
@@ -366,6 +428,23 @@ class Commands(Folder):
         self.assertIn("\nchoices that the slow engine tried              48\n", work)
         _, refused = self.command("join", *self.large(), "--explain", "--engine", "slow", status=1)
         self.assertRegex(refused, "scratch needed: .*\n.*\npigrozd: refused 15 0: ")
+
+    def test_copies(self):
+        """The choices are those of copies: 15 of frames, 4 of exposures, 7 of readings. IN is the number of rows."""
+        here = self.write("counted", COUNTED_SAMPLE)
+        out, fast = self.command("join", here, "--explain")
+        self.assertEqual(out.count("\n"), 1 + 23)
+        same, slow = self.command("join", here, "--explain", "--engine", "slow")
+        self.assertEqual(same, out)
+        for told in (fast, slow):
+            self.assertIn("|-- table0: 4 rows, 15 copies (a0, a1)\n", told)
+            self.assertEqual(re.findall(r"rows of the tables \(IN\) +(.*)", told), ["11"])
+        self.assertEqual(re.findall("choices that the slow engine tried +(.*)", slow), ["420"])
+        many = self.write("many", with_copies(SAMPLE, [[65535] * 4, None, None]))
+        told = "the slow engine says 15: 262,140 * 4 * 3 = 3,145,680 choices, and it goes through 1,048,576 at most"
+        self.assertIn(told, self.command("dump", many)[0].splitlines())
+        told = "many: refused 15 0: .*: one copy of one row of each table makes 262,140 .* fewer rows or copies, "
+        self.fails(told, "join", many, "--engine", "slow", status=1)
 
     def test_dump(self):
         self.command("pack", self.at("out"), *self.large())

@@ -15,7 +15,7 @@ import time
 import unittest
 from unittest import mock
 
-from support import CSVS, SAMPLE, SAMPLE_PLAN, Folder, path
+from support import COUNTED_SAMPLE, CSVS, SAMPLE, SAMPLE_PLAN, Folder, path, with_copies
 from test_access import ONE_LESS, grouped
 
 import pigrozd
@@ -34,6 +34,14 @@ n  frame  exposure  reading  centikelvin  |  frames  exposures  readings
 1     10         1        7        29510  |       0          0         1
 2     11         2        9        29530  |       1          2         2
 3     12         2        9        29530  |       2          2         2
+"""
+
+
+COUNTED = """\
+ n  frame  a1  a2     a3  |  frames.copy  table1  table2.copy
+ 2     10   1   7  29510  |          0.0       0          1.0
+ 3     11   2   9  29530  |          1.0       2          2.0
+ 4     11   2   9  29530  |          1.0       2          2.1
 """
 
 
@@ -157,12 +165,58 @@ class Printing(Folder):
             "0,4,0": "table1 has no row 4: it has 4 rows, numbered from 0",
             "0,1,0": "table0 and table1 do not agree: a1 is 1 in row 0 of table0 and 2 in row 1 of table1",
         }.items():
-            first = "sample: refused 17 0: the row numbers are those of no result: "
+            first = "sample: refused 17 0: the row numbers and copies are those of no result: "
             self.refused(first + told + "$", here, "--find", rows)
         self.refused("cut: refused 1 42: .*; pigrozd dump .*cut shows it$", self.write("cut", SAMPLE[:50]))
         self.refused("refused 8 1: .* it leaves out exposures and readings$", *CSVS, "--plan", "frames")
         ring = [self.write(name + ".csv", head + "\n") for name, head in (("a", "x,y"), ("b", "y,z"), ("c", "x,z"))]
         self.refused("refused 14 0: .*; pigrozd plan --tables .*c.csv shows it$", *ring)
+
+    def test_copies(self):
+        """Where rows have copies, the column is called so, and 1.2 is copy 2 of row 1."""
+        here = self.write("counted", COUNTED_SAMPLE)
+        self.write("counted.names", "0 frame\ntable 0 frames\n")
+        self.assertEqual(self.page(here, "--row-numbers", "--at", "2", "--rows", "3"), COUNTED)
+        without = "".join(line.split("  |")[0] + "\n" for line in COUNTED.splitlines())
+        self.assertEqual(self.page(here, "--at", "2", "--rows", "3"), without)
+        for n in range(23):
+            last = self.page(here, "--row-numbers", "--at", str(n), "--rows", "1").splitlines()[1]
+            for between in (",", " ", " , "):
+                found = self.page(here, "--row-numbers", "--find", between.join(last.split()[-3:]), "--rows", "1")
+                self.assertEqual(found.splitlines()[1], last)
+        for find, n in (("1,2,2", 3), ("1.0 2.0 2.0", 3), ("1.2,2,2", 11), ("1.02,02.00,2.3", 14)):
+            self.assertEqual(self.page(here, "--find", find, "--rows", "1").splitlines()[1].split()[0], str(n))
+        for find, told in {
+            "1.3,2,2": "row 1 of frames has no copy 3: it has 3 copies, numbered from 0",
+            "1.2,2.1,2": "row 2 of table1 has no copy 1: it has 1 copy, numbered from 0",
+            "1,2,2.%d" % 2**32: "row 2 of table2 has no copy 4294967296: it has 4 copies, numbered from 0",
+            "4.0,2,2": "frames has no row 4: it has 4 rows, numbered from 0",
+        }.items():
+            self.refused("counted: refused 17 0: .*: %s$" % re.escape(told), here, "--find", find)
+        self.refused("has no copy 1: it has 1 copy, numbered from 0$", *CSVS, "--find", "1,2.1,2")
+        for find, told in {
+            "1.,2,2": "a copy number of --find is a number from 0 on, not ''",
+            ".1,2,2": "a row number of --find is a number from 0 on, not ''",
+            "1.2.0,2,2": "a copy number of --find is a number from 0 on, not '2.0'",
+            "1.x,2,2": "a copy number of --find is a number from 0 on, not 'x'",
+            "1.-1,2,2": "a copy number of --find is a number from 0 on, not '-1'",
+        }.items():
+            self.fails("^pigrozd: %s$" % re.escape(told), "view", here, "--find", find)
+
+    def test_wide_columns_of_copies(self):
+        """They are as wide as the longest pair that is there, and a long name is cut before its ending."""
+        data = with_copies(pigrozd.make_file([{0: [7] * 11}]), [[65535, *[1] * 9, 999]])
+        here = self.write("counted", data)
+        lines = self.page(here, "--row-numbers", "--at", "65534", "--rows", "2").splitlines()
+        shown = ["    n  a0  |  table0.copy", "65534   7  |      0.65534", "65535   7  |          1.0"]
+        self.assertEqual(lines, shown)
+        self.write("counted.names", "table 0 %s\n" % ("long" * 20))
+        title = "long" * 8 + "l...copy"
+        self.assertEqual(self.page(here, "--row-numbers", "--rows", "1").splitlines()[0].split()[-1], title)
+        self.assertEqual(len(title), viewing.WIDEST)
+        self.write("counted.names", "table 0 t\n")
+        lines = self.page(here, "--row-numbers", "--rows", "1").splitlines()
+        self.assertEqual(lines, ["    n  a0  |   t.copy", "    0   7  |      0.0"])
 
     def test_too_many_results(self):
         told = (
@@ -209,7 +263,9 @@ class Viewing(unittest.TestCase):
     """A viewer without a terminal."""
 
     def view(self, tables, size=40, first=0, with_rows=False):
-        data = pigrozd.make_file(tables)
+        return self.view_of_file(pigrozd.make_file(tables), size, first, with_rows)
+
+    def view_of_file(self, data, size=40, first=0, with_rows=False):
         known = names.Names()
         opened = access.Tables(data, known)
         layout = viewing.Layout(opened, fileformat.read(data, known), known)
@@ -364,6 +420,24 @@ class Views(Viewing):
         self.assertGreater(len(told), 2)
         self.assertEqual(len(view.picture(3, 30).told), 2)
         self.assertEqual(self.press(view, "down")[0], list(range(1, 11)))
+
+    def test_copies(self):
+        """They are typed as they are shown, and the help says how."""
+        view = self.view_of_file(COUNTED_SAMPLE, size=1, first=14, with_rows=True)
+        shown = view.picture(12, 80)
+        self.assertEqual(shown.header, " n  a0  a1  a2     a3  |  table0.copy  table1  table2.copy")
+        self.assertEqual(shown.results, ["14  11   2   9  29530  |          1.2       2          2.3"])
+        self.assertEqual(self.press(view, "/")[1], ["rows of table0.copy, table1, table2.copy: "])
+        self.assertEqual(self.press(view, *"0.0 0 0.1", "enter")[0], [1])
+        self.assertEqual(self.press(view, "/", *"1,2,2", "enter")[0], [3])
+        for typed, told in {
+            "1.3 2 2": "row 1 of table0 has no copy 3: it has 3 copies, numbered from 0",
+            "1. 2 2": "a copy number is a number from 0 on, not ''",
+        }.items():
+            self.assertEqual(self.press(view, "/", *typed, "enter"), ([3], [told]))
+        _, told = self.press(view, "?")
+        self.assertEqual(" ".join(told), viewing.HELP + viewing.HELP_OF_COPIES)
+        self.assertTrue(" ".join(told).endswith("with .copy, 12.3 is copy 3 of row 12, and so it is typed"))
 
     def test_no_results(self):
         view = self.view([{0: [], 1: []}])

@@ -1,8 +1,8 @@
 #!/bin/sh
 # Tests examples/c/view_page.c, built as $1: on the sample file it prints what is expected; on the file of every sample its pages are
-# those of the rows that examples/c/join_file.c, built as $2, prints, and what that refuses before 11 it refuses alike; it
-# shows results with numbers above 2^32 and 2^63, and refuses 2^64 results; each number is found back; and its status says
-# what became of the page. make check-c runs it from the top of the repository.
+# those of the rows that examples/c/join_file.c, built as $2, prints, and what that refuses before 11, or with 19, it refuses
+# alike; it shows results with numbers above 2^32 and 2^63, and refuses 2^64 results; it shows copies of rows; each number is
+# found back; and its status says what became of the page. make check-c runs it from the top of the repository.
 set -u
 view_page=$1
 join_file=$2
@@ -31,7 +31,7 @@ compare() {
     "$view_page" "$1" "$2" >"$room/printed" || fail "$sample from $2 on: status $?"
     head -n 1 "$room/joined" | sed 's/^rows/results/' >"$room/wanted"
     sed '1d; $d' "$room/joined" | tail -n +$(($2 + 1)) | head -n 40 | awk -v n="$2" '{ print n + NR - 1 ": " $0 }' >>"$room/wanted"
-    sed 's/ (rows [0-9 ]*)$//' "$room/printed" | cmp -s - "$room/wanted" || fail "$sample from $2 on: another page than the join's rows"
+    sed 's/ (rows [0-9. ]*)$//' "$room/printed" | cmp -s - "$room/wanted" || fail "$sample from $2 on: another page than the join's rows"
 }
 
 # TABLES ROWS: so many tables of one attribute, each with so many rows, up to 255, all of one value
@@ -118,6 +118,31 @@ shown 1 'refused 16 17293822569102704640' "$room/many" 18446744073709551615
 { tables 16 16; printf 'PL\000'; } >"$room/many"
 shown 1 'refused 11 18446744073709551615' "$room/many"
 shown 1 'refused 11 18446744073709551615' "$room/many" 18446744073709551615
+
+# copies: a table of two rows with 2 and 65,535 of them, one without copies, and one of a row with 3. Then a row of none, and of
+# 65,536; and a file that is cut in its copies
+counted() {
+    printf 'TC\001\000\000\000\002\000\000\000\002\000\000\000\377\377\000\000'
+    head -c 8 /dev/zero
+    tables 1 2
+    printf 'TC\002\000\000\000\001\000\000\000\003\000\000\000\007\000\000\000PL\000'
+}
+counted >"$room/counted"
+"$view_page" "$room/counted" >"$room/printed" || fail 'copies are not shown'
+[ "$(sed -n '1,5p; 8p; 14p; 41p' "$room/printed" | tr '\n' ' ')" = "results 393222 0: 0 7 (rows 0.0 0 0.0) 1: 0 7 (rows 0.1 0 0.0) \
+2: 0 7 (rows 1.0 0 0.0) 3: 0 7 (rows 1.1 0 0.0) 6: 0 7 (rows 1.4 0 0.0) 12: 0 7 (rows 1.10 0 0.0) 39: 0 7 (rows 1.37 0 0.0) " ] ||
+    fail 'copies have another page'
+shown 0 'results 393222
+393221: 0 7 (rows 1.65534 1 0.2)' "$room/counted" 393221
+shown 1 'refused 16 393222' "$room/counted" 393222
+for copies in '\000\000\000\000' '\000\000\001\000' '\377\377\377\377'; do
+    { tables 1 2; printf 'TC\001\000\000\000\001\000\000\000%bAAAAPL\000' "$copies"; } >"$room/wrong"
+    shown 1 'refused 19 18' "$room/wrong"
+    head -c 35 "$room/wrong" >"$room/cut"
+    shown 1 'refused 1 18' "$room/cut"
+    head -c 31 "$room/wrong" >"$room/cut"
+    shown 1 'refused 1 18' "$room/cut"
+done
 
 # what is no number, and a file that is not there
 for number in '' -1 +1 ' 1' 0x1 1.0 1e3 18446744073709551616; do

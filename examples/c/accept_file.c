@@ -19,10 +19,10 @@
 
 #include "pigrozd.h"
 
-/* 16 tables of 8 columns of 4,096 values, and a plan of 255 bytes; and one byte more: a longer file is refused, and these bytes
- * say why. */
+/* 16 tables of 4,096 rows, each with its copies and 8 values, and a plan of 255 bytes; and one byte more: a longer file is refused,
+ * and these bytes say why. */
 enum {
-    MOST_TABLE_BYTES = 10 + 4 * PIGROZD_MOST_TABLE_ATTRIBUTES * PIGROZD_MOST_ROWS,
+    MOST_TABLE_BYTES = 10 + 4 * (1 + PIGROZD_MOST_TABLE_ATTRIBUTES) * PIGROZD_MOST_ROWS,
     MOST_FILE_BYTES = PIGROZD_MOST_TABLES * MOST_TABLE_BYTES + 3 + PIGROZD_MOST_PLAN_BYTES
 };
 

@@ -12,9 +12,9 @@
 
 #include "pigrozd.h"
 
-/* 16 tables of 8 columns of 4,096 values, and a plan of 255 bytes. */
+/* 16 tables of 4,096 rows, each with its copies and 8 values, and a plan of 255 bytes. */
 enum {
-    MOST_TABLE_BYTES = 10 + 4 * PIGROZD_MOST_TABLE_ATTRIBUTES * PIGROZD_MOST_ROWS,
+    MOST_TABLE_BYTES = 10 + 4 * (1 + PIGROZD_MOST_TABLE_ATTRIBUTES) * PIGROZD_MOST_ROWS,
     MOST_FILE_BYTES = PIGROZD_MOST_TABLES * MOST_TABLE_BYTES + 3 + PIGROZD_MOST_PLAN_BYTES
 };
 
@@ -34,6 +34,12 @@ static unsigned ones(uint32_t mask)
     return n;
 }
 
+/* How many columns the table at this offset has: one for each attribute, and before them one of copies if its mark says so. */
+static size_t columns(size_t at)
+{
+    return ones(word_at(at + 2)) + (file[at + 1] == 'C' ? 1u : 0u);
+}
+
 /* The values of a row of the result: the attributes that some table has. Only for a file that the join has not refused as a
  * file, so that each record is whole. */
 static unsigned width(void)
@@ -41,9 +47,8 @@ static unsigned width(void)
     uint32_t all = 0;
     size_t at = 0;
     while (file[at] == 'T') {
-        uint32_t mask = word_at(at + 2);
-        all |= mask;
-        at += 10 + 4 * (size_t)ones(mask) * word_at(at + 6);
+        all |= word_at(at + 2);
+        at += 10 + 4 * columns(at) * word_at(at + 6);
     }
     return ones(all);
 }

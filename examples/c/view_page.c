@@ -1,9 +1,10 @@
 /* Shows a page of the results of a packed file, of any size that the rules allow: forty results from number N on, from 0 if no N
  * is given, each with its row number in each table. No other result is written out. Each number is then found back from the row
- * numbers. It prints
+ * numbers and copies. It prints
  *
  *     results OUT                      how many results there are
- *     NUMBER: VALUES (rows ROWS)       for each result of the page: values with attributes rising, row numbers by table number
+ *     NUMBER: VALUES (rows ROWS)       for each result of the page: values with attributes rising, row numbers by table number;
+ *                                      where a table has copies, 12.3 is copy 3 of row 12
  *     NUMBER differs: ..               never, which is proved: something else than this number came back
  *
  * or, if the file is refused or N is not below OUT, one line: refused NUMBER DETAIL. Both buffers are as large as the library
@@ -21,10 +22,10 @@
 
 #include "pigrozd.h"
 
-/* 16 tables of 8 columns of 4,096 values, and a plan of 255 bytes. */
+/* 16 tables of 4,096 rows, each with its copies and 8 values, and a plan of 255 bytes. */
 enum {
     PAGE = 40,
-    MOST_TABLE_BYTES = 10 + 4 * PIGROZD_MOST_TABLE_ATTRIBUTES * PIGROZD_MOST_ROWS,
+    MOST_TABLE_BYTES = 10 + 4 * (1 + PIGROZD_MOST_TABLE_ATTRIBUTES) * PIGROZD_MOST_ROWS,
     MOST_FILE_BYTES = PIGROZD_MOST_TABLES * MOST_TABLE_BYTES + 3 + PIGROZD_MOST_PLAN_BYTES
 };
 
@@ -48,13 +49,18 @@ static unsigned ones(uint32_t mask)
     return n;
 }
 
-/* How many tables the file has. Only for a file that the library has not refused as a file, so that each record is whole. */
-static size_t count_tables(void)
+static size_t tables;
+static int has_copies[PIGROZD_MOST_TABLES];
+
+/* How many tables the file has, and which of them have a column of copies, before those of the attributes. Only for a file that the
+ * library has not refused as a file, so that each record is whole. */
+static void look_at_tables(void)
 {
-    size_t tables = 0, at = 0;
-    for (; file[at] == 'T'; tables++)
-        at += 10 + 4 * (size_t)ones(word_at(at + 2)) * word_at(at + 6);
-    return tables;
+    size_t at = 0;
+    for (; file[at] == 'T'; tables++) {
+        has_copies[tables] = file[at + 1] == 'C';
+        at += 10 + 4 * (ones(word_at(at + 2)) + (size_t)has_copies[tables]) * word_at(at + 6);
+    }
 }
 
 static int fail(const char *what)
@@ -91,18 +97,22 @@ static pigrozd_result_answer result_at(uint64_t n)
 }
 
 /* Prints one result, and finds its number back: whether it is the same. */
-static int show(uint64_t n, size_t tables)
+static int show(uint64_t n)
 {
     pigrozd_result_answer answer = result_at(n);
-    pigrozd_number_answer back = pigrozd_number_of(file, length, scratch, scratch_words, answer.rows, tables);
+    pigrozd_number_answer back =
+        pigrozd_number_of(file, length, scratch, scratch_words, answer.rows, tables, answer.copies, tables);
     size_t i;
 
     printf("%" PRIu64 ":", n);
     for (i = 0; i < row_words; i++)
         printf(" %" PRIu32, row[i]);
     printf(" (rows");
-    for (i = 0; i < tables; i++)
+    for (i = 0; i < tables; i++) {
         printf(" %" PRIu32, answer.rows[i]);
+        if (has_copies[i])
+            printf(".%" PRIu32, answer.copies[i]);
+    }
     printf(")\n");
 
     if (answer.number == PIGROZD_JOINED && back.number == PIGROZD_JOINED && back.n == n)
@@ -142,10 +152,10 @@ int main(int count, char **arguments)
     if (answer.number == PIGROZD_JOINED) {
         /* No result has the highest number: the answer is PIGROZD_NO_SUCH_RESULT, and says how many there are. */
         uint64_t results = result_at(UINT64_MAX).detail, n;
-        size_t tables = count_tables();
+        look_at_tables();
         printf("results %" PRIu64 "\n", results);
         for (n = first; n < results && n - first < PAGE; n++)
-            if (!show(n, tables))
+            if (!show(n))
                 status = 3;
     } else {
         printf("refused %" PRIu64 " %" PRIu64 "\n", answer.number, answer.detail);

@@ -31,16 +31,29 @@ Results are counted without being written, so there may be more than join can gi
     opened.number_of((1, 2, 2))     # 2
 
 Opened tables give any result by its number, without the others: its values, and the row number of each table. From
-such row numbers they give the number. docs/PYTHON.md says more; `python3 -m pigrozd --help` joins CSV files.
+such row numbers they give the number.
+
+    often = pigrozd.counted({"reading": [7, 9], "centikelvin": [29510, 29530], "times": [900, 1]}, "times")
+    opened = pigrozd.open_tables({**tables, "readings": often})
+    len(opened)                                 # 902
+    opened.result(899).rows                     # (0, 0, 0)
+    opened.result(899).copies                   # (0, 0, 899)
+    opened.number_of((0, 0, 0), (0, 0, 899))    # 899
+
+A table may send a row once, with a column that says how often it stands there; `fold` makes such a table of equal
+rows. A result is then made of rows and of copies of them. docs/PYTHON.md says more; `python3 -m pigrozd --help` joins
+CSV files.
 """
 from .access import ResultRow, ResultSlice, Tables, open_file, open_tables
-from .answers import MEANINGS, NoSuchResult, Refused
+from .answers import MEANINGS, Kind, NoSuchResult, Refused
+from .folding import fold
 from .joining import count, count_file, join, join_file, make_file
 from .library import Answer, Engine, LibraryError, NumberAnswer, ResultAnswer, SlowAnswer
 from .library import call, call_number_of, call_result_at, call_slow
 from .messages import InputError
 from .results import Counts, Result
 from .sizes import Size
+from .tables import Counted, counted
 from .values import NOT_RECORDED
 
 __version__ = "0.1.0"
@@ -52,6 +65,8 @@ __all__ = [
     "count_file",
     "open_tables",
     "open_file",
+    "counted",
+    "fold",
     "call",
     "call_slow",
     "call_result_at",
@@ -64,6 +79,7 @@ __all__ = [
     "Counts",
     "Result",
     "Size",
+    "Counted",
     "ResultRow",
     "ResultSlice",
     "Tables",
@@ -72,6 +88,7 @@ __all__ = [
     "InputError",
     "LibraryError",
     "MEANINGS",
+    "Kind",
     "NOT_RECORDED",
     "__version__",
 ]

@@ -1,5 +1,5 @@
 """Tables opened once, so that any result of their join is given by its number, without the others, and its number by
-the rows that it is made of (request U6)."""
+the rows and copies that it is made of (requests U6 and U9)."""
 import collections.abc
 import operator
 import sys
@@ -22,9 +22,10 @@ from .tables import GivenTables
 from .values import NOT_RECORDED, values_of
 
 PAGE = 40  # results that a page has if nothing else is said
+ROW_NUMBER, COPY_NUMBER = "row number", "copy number"  # what is given for each table on the way back
 
 RowValues = Tuple[Optional[int], ...]  # the values of a result, None for what was not recorded
-GivenRows = Union[Sequence[int], Mapping[Key, int]]  # by table number; or by the tables' names or numbers
+GivenNumbers = Union[Sequence[int], Mapping[Key, int]]  # by table number; or by the tables' names or numbers
 
 
 def open_tables(tables: GivenTables, plan: Optional[plans.GivenPlan] = None) -> "Tables":
@@ -43,12 +44,14 @@ def open_file(file: GivenFile) -> "Tables":
 
 @dataclass(frozen=True)
 class ResultRow:
-    """One result: its number `n`; its `values`, in the order of the names, None for what was not recorded; and the
-    numbers of the `rows` that it is made of, one of each table, by table number."""
+    """One result: its number `n`; its `values`, in the order of the names, None for what was not recorded; the numbers
+    of the `rows` that it is made of, one of each table, by table number; and in the same way its `copies`: which copy
+    of each of these rows it is made of, from 0. In a table without copies this is 0."""
 
     n: int
     values: RowValues
     rows: Tuple[int, ...]
+    copies: Tuple[int, ...]
 
 
 class Tables(Sequence[RowValues]):
@@ -106,7 +109,7 @@ class Tables(Sequence[RowValues]):
 
     # ---- by number
     def result(self, n: int) -> ResultRow:
-        """Result number n, from 0, with the rows that it is made of. NoSuchResult if there is none."""
+        """Result number n, from 0, with the rows and copies that it is made of. NoSuchResult if there is none."""
         number = whole_number(n, "the number of a result")
         if number < 0:
             raise InputError("results are numbered from 0 on, not %.60r; tables[-1] is the last one" % n)
@@ -117,7 +120,8 @@ class Tables(Sequence[RowValues]):
             raise no_such_result(number, answer.detail)
         if answer.number:
             raise self._refusal(answer)
-        return ResultRow(number, tuple(values_of(words)), answer.rows[: len(self.table_names)])
+        tables = len(self.table_names)
+        return ResultRow(number, tuple(values_of(words)), answer.rows[:tables], answer.copies[:tables])
 
     def __len__(self) -> int:
         return length(self._total)
@@ -156,32 +160,41 @@ class Tables(Sequence[RowValues]):
         return "<Tables: %s, %s, names %r>" % (tables, results, self.names)
 
     # ---- by rows
-    def number_of(self, rows: GivenRows) -> int:
-        """The number of the result that is made of these rows: the way back from result(n).rows.
+    def number_of(self, rows: GivenNumbers, copies: Optional[GivenNumbers] = None) -> int:
+        """The number of the result that is made of these rows and copies: the way back from result(n).rows and
+        result(n).copies.
 
         rows: the row number of each table, in the order of the tables; or a mapping of the tables' names or numbers to
-        row numbers. Refused with 17, and why, if no result is made of them."""
-        given = self._by_table(rows) if isinstance(rows, collections.abc.Mapping) else row_numbers(rows)
-        if all(0 <= row <= HIGHEST_WORD for row in given):
+        row numbers. copies: which copy of each of these rows, given in the same way; without them copy 0 of each row.
+        Refused with 17, and why, if no result is made of them."""
+        row_numbers = self._by_table(rows, ROW_NUMBER)
+        copy_numbers = [0] * len(row_numbers) if copies is None else self._by_table(copies, COPY_NUMBER)
+        if all(0 <= number <= HIGHEST_WORD for number in row_numbers + copy_numbers):
             with self._lock:
-                answer = call_number_of(self._data, self._scratch, given)
+                answer = call_number_of(self._data, self._scratch, row_numbers, copy_numbers)
             if answer.number == 0:
                 return answer.n
             if answer.number != NOT_A_RESULT:
                 raise self._refusal(answer)
-        raise Refused(NOT_A_RESULT, 0, why_no_result(given, self._file, self._called))
+        raise Refused(NOT_A_RESULT, 0, why_no_result(row_numbers, copy_numbers, self._file, self._called))
 
-    def _by_table(self, rows: Mapping[Any, Any]) -> List[int]:
-        """The row numbers of a mapping, by table number. Refused if a table has none."""
+    def _by_table(self, numbers: Any, called: str) -> List[int]:
+        """Row numbers or copy numbers by table number: of a mapping, or given in order."""
+        if isinstance(numbers, collections.abc.Mapping):
+            return self._of_mapping(numbers, called)
+        return in_order(numbers, called)
+
+    def _of_mapping(self, numbers: Mapping[Any, Any], called: str) -> List[int]:
+        """The numbers of a mapping, by table number. Refused if a table has none."""
         given: Dict[int, int] = {}
-        for key, row in rows.items():
+        for key, number in numbers.items():
             table = self._table_number(key)
             if table in given:
-                raise InputError("two row numbers are given for %s" % self._called.table(table))
-            given[table] = whole_number(row, "a row number")
+                raise InputError("two %ss are given for %s" % (called, self._called.table(table)))
+            given[table] = whole_number(number, "a " + called)
         lacking = [self._called.table(t) for t in range(len(self.table_names)) if t not in given]
         if lacking:
-            told = "one row number for each table is wanted, and none is given for %s" % listed(lacking)
+            told = "one %s for each table is wanted, and none is given for %s" % (called, listed(lacking))
             raise Refused(NOT_A_RESULT, 0, told)
         return [given[t] for t in range(len(given))]
 
@@ -246,13 +259,14 @@ def length(results: int) -> int:
     return results
 
 
-def row_numbers(rows: Any) -> List[int]:
-    """The row numbers that are given in order."""
-    if isinstance(rows, collections.abc.Set):
-        raise TypeError("a %s has no order; give a list of row numbers" % type(rows).__name__)
-    if isinstance(rows, str) or not isinstance(rows, collections.abc.Iterable):
-        raise TypeError("row numbers come in a list, or in a mapping of tables, not in a %s" % type(rows).__name__)
-    return [whole_number(row, "a row number") for row in rows]
+def in_order(numbers: Any, called: str) -> List[int]:
+    """The row numbers or copy numbers that are given in the order of the tables."""
+    if isinstance(numbers, collections.abc.Set):
+        raise TypeError("a %s has no order; give a list of %ss" % (type(numbers).__name__, called))
+    if isinstance(numbers, str) or not isinstance(numbers, collections.abc.Iterable):
+        told = "%ss come in a list, or in a mapping of tables, not in a %s"
+        raise TypeError(told % (called, type(numbers).__name__))
+    return [whole_number(number, "a " + called) for number in numbers]
 
 
 # ---- in words
@@ -272,24 +286,33 @@ def too_many(file: File, names: Names) -> str:
     return why + every_pair(file, names)
 
 
-def why_no_result(rows: Sequence[int], file: File, names: Names) -> str:
-    """Why no result is made of rows with these numbers, by table number."""
+def why_no_result(rows: Sequence[int], copies: Sequence[int], file: File, names: Names) -> str:
+    """Why no result is made of rows and copies with these numbers, by table number; nothing if one is."""
     tables = file.tables
-    if len(rows) != len(tables):
-        called = listed([names.table(t) for t in range(len(tables))])
-        given = "none is" if not rows else "1 is" if len(rows) == 1 else "%d are" % len(rows)
-        return "one row number for each table is wanted (%s), and %s given" % (called, given)
-    for t, row in enumerate(rows):
+    for numbers, called in ((rows, ROW_NUMBER), (copies, COPY_NUMBER)):
+        if len(numbers) != len(tables):
+            named = listed([names.table(t) for t in range(len(tables))])
+            given = "none is" if not numbers else "1 is" if len(numbers) == 1 else "%d are" % len(numbers)
+            return "one %s for each table is wanted (%s), and %s given" % (called, named, given)
+    for t, (row, copy) in enumerate(zip(rows, copies)):
         if not 0 <= row < tables[t].rows:
-            there = count(tables[t].rows, "row") + ", numbered from 0" if tables[t].rows else "no rows"
-            told = str(row) if row.bit_length() <= 128 else "with such a number"
-            return "%s has no row %s: it has %s" % (names.table(t), told, there)
+            return why_none(names.table(t), row, tables[t].rows, "row")
+        copies_there = file.copies(tables[t])[row]
+        if not 0 <= copy < copies_there:
+            return why_none("row %d of %s" % (row, names.table(t)), copy, copies_there, "copy")
     for t in range(len(tables)):
         for u in range(t + 1, len(tables)):
             for a in tables[t].attributes:
                 if a in tables[u].attributes and not match(file, a, (t, rows[t]), (u, rows[u])):
                     return why_no_match(file, names, a, (t, rows[t]), (u, rows[u]))
     return ""
+
+
+def why_none(holder: str, number: int, there: int, thing: str) -> str:
+    """That a table has no row with this number, or a row no such copy, and how many there are."""
+    has = count(there, thing) + ", numbered from 0" if there else "no %ss" % thing
+    told = str(number) if number.bit_length() <= 128 else "with such a number"
+    return "%s has no %s %s: it has %s" % (holder, thing, told, has)
 
 
 TableRow = Tuple[int, int]  # a table's number, and that of one of its rows

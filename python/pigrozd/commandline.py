@@ -12,7 +12,7 @@ from . import __version__, commands
 from .access import PAGE
 from .answers import Refused
 from .commands import REFUSED, UNUSABLE
-from .limits import HIGHEST_COUNT, MOST_CHOICES
+from .limits import HIGHEST_COUNT, MOST_CHOICES, MOST_COPIES
 from .messages import InputError
 from .streams import PROGRAM, tell, write_out
 from .values import LARGEST
@@ -113,6 +113,29 @@ def add_csv_options(parser: argparse.ArgumentParser) -> None:
         "empty name leaves its number free (without this: in order of first appearance)",
     )
     parser.add_argument("--text", metavar="NAME,..", help="these attributes hold texts and not numbers")
+    add_copies_option(parser)
+    parser.set_defaults(fold=False)
+
+
+def add_copies_option(parser: argparse.ArgumentParser) -> None:
+    """The option for the column of copies of CSV files."""
+    parser.add_argument(
+        "--copies",
+        metavar="NAME",
+        help="a column of this name is no attribute: it says how often each row stands there, 1 to {:,} times".format(
+            MOST_COPIES
+        ),
+    )
+
+
+def add_fold_option(parser: argparse.ArgumentParser, gives: str) -> None:
+    """The option to fold CSV files; what it gives."""
+    parser.add_argument(
+        "--fold",
+        action="store_true",
+        help="make rows that stand next to each other and are equal one row with copies, so that a CSV file may have "
+        "more than 4,096 rows; " + gives,
+    )
 
 
 def add_join(subparsers: Any) -> None:
@@ -150,6 +173,7 @@ def add_join(subparsers: Any) -> None:
         "and gives the same rows, without counts (without this: join)".format(MOST_CHOICES),
     )
     add_csv_options(p)
+    add_fold_option(p, "the rows of the join are the same, in the same order")
 
 
 def add_view(subparsers: Any) -> None:
@@ -167,7 +191,8 @@ def add_view(subparsers: Any) -> None:
     p.add_argument(
         "--find",
         metavar="ROW,ROW,..",
-        help="begin with the result that is made of these rows: one row number, from 0, for each table in turn",
+        help="begin with the result that is made of these rows: one row number, from 0, for each table in turn; 12.3 "
+        "is copy 3 of row 12, from 0, where a table has copies",
     )
     p.add_argument("--rows", metavar="COUNT", help="so many results make a page (without this: %d)" % PAGE)
     p.add_argument(
@@ -191,6 +216,7 @@ def add_count(subparsers: Any) -> None:
     p.add_argument("files", metavar="FILE", nargs="+", help="a packed file; or CSV files")
     p.add_argument("--plan", help="join by this plan, as `pigrozd join --plan` does")
     add_csv_options(p)
+    add_fold_option(p, "the results are the same")
 
 
 def add_pack(subparsers: Any) -> None:
@@ -209,6 +235,7 @@ def add_pack(subparsers: Any) -> None:
         "length 0, and the library finds one)",
     )
     add_csv_options(p)
+    add_fold_option(p, "tells what it saved")
     p.add_argument("--anyway", action="store_true", help="write the file though it will be refused")
     p.add_argument(
         "--force", action="store_true", help="replace OUT and OUT.names whatever they are; never one of the CSV files"
@@ -220,7 +247,8 @@ def add_unpack(subparsers: Any) -> None:
     p = add_command(
         subparsers,
         commands.unpack,
-        "Writes the tables of a packed file as CSV files, and prints the command that " "packs them again.",
+        "Writes the tables of a packed file as CSV files, and prints the command that packs them again. The first "
+        "column of a table with copies says how often each row stands there; the command names it with --copies.",
     )
     p.add_argument("file", metavar="FILE")
     p.add_argument("dir", metavar="DIR", help="the folder for the CSV files; made if it is not there")
@@ -244,7 +272,8 @@ def add_dump(subparsers: Any) -> None:
         subparsers,
         commands.dump,
         "Shows any file: records with offsets, masks, columns, plan. The byte that an "
-        "answer's detail points at is marked: the answer given, or else the first one of 1 to 9 and 14 that is due.",
+        "answer's detail points at is marked: the answer given, or else the first one of 1 to 9, 14 and 19 that is "
+        "due.",
     )
     p.add_argument("file", metavar="FILE")
     p.add_argument("--answer", metavar=("NUMBER", "DETAIL"), nargs=2, type=int, help="as in: refused NUMBER DETAIL")
@@ -272,6 +301,7 @@ def add_plan(subparsers: Any) -> None:
     )
     p.add_argument("--plan", help="draw this plan in place of the file's own")
     p.add_argument("--tables", metavar="TABLE", nargs="+", help="CSV files, or NAME=ATTRIBUTE,ATTRIBUTE,..")
+    add_copies_option(p)
     p.add_argument(
         "--dot", action="store_true", help="as Graphviz DOT: pigrozd plan FILE --dot | dot -Tsvg > plan.svg"
     )

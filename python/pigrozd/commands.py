@@ -3,13 +3,14 @@ import argparse
 import os
 import re
 import shlex
-from typing import List, Optional, Sequence, Tuple, Union
+from typing import List, NamedTuple, Optional, Sequence, Tuple, Union
 
-from . import csvfiles, dumps, fileformat, files, messages, plans, screens, viewing
+from . import csvfiles, dumps, fileformat, files, folding, messages, plans, screens, viewing
 from .access import PAGE, Tables
-from .answers import LAST_OF_PLANS, LAST_OF_RECORDS, MEANINGS, NO_SUCH_RESULT, NONE_FOUND
-from .answers import TOO_MANY_CHOICES, TOO_MANY_RESULTS, Refused
+from .answers import BEHIND_PLAN, MEANINGS, NO_HOLDER, NO_SUCH_RESULT, NONE_FOUND, NOT_A_RESULT, ROW_SHORT
+from .answers import TOO_MANY_CHOICES, TOO_MANY_RESULTS, Kind, Refused
 from .drawing import Drawing, DrawingOfStuck, drawing_without_plan
+from .folding import OtherPlan, other_plan
 from .joining import count_bytes, join_bytes
 from .library import engine_named
 from .limits import MOST_OUTPUT, PROGRAM_BYTES, PROGRAM_WORDS
@@ -22,6 +23,14 @@ DONE, REFUSED, UNUSABLE = 0, 1, 2  # how a command ends
 
 Arguments = argparse.Namespace
 Drawn = Union[Drawing, DrawingOfStuck]
+
+
+class Inputs(NamedTuple):
+    """What is joined: the bytes of a file, its names, and the CSV files that it is packed out of, if it is."""
+
+    data: bytes
+    names: Names
+    sheets: Sequence[csvfiles.Sheet] = ()
 
 
 # ---- what is joined
@@ -44,13 +53,13 @@ def is_packed(paths: Sequence[str]) -> bool:
 def refused_file(path: str, refused: Refused, plan: Optional[str] = None) -> int:
     """Tells that a packed file is refused, and which command shows where it is at fault; the status."""
     hint = ""
-    if refused.number <= 2 and refused.detail == 0:
+    if refused.number in (1, 2) and refused.detail == 0:  # no record of document 01 is there
         hint = "; a CSV file's name ends in .csv"
         if path.lower().endswith(csvfiles.ENDING):
             hint = "; a packed file is wanted here, and pigrozd pack makes one of CSV files"
-    elif refused.number <= LAST_OF_RECORDS or refused.number <= LAST_OF_PLANS and plan is None:
+    elif refused.kind is Kind.OFFSET or refused.kind is Kind.PLAN_INDEX and plan is None:
         hint = "; %s shows it" % command_text("dump", operand(path))
-    elif refused.number == LAST_OF_PLANS and plan is not None:
+    elif refused.number == NO_HOLDER and plan is not None:
         hint = "; %s shows it" % command_text("plan", operand(path), *option("--plan", plan))
     elif refused.number == NONE_FOUND:
         hint = "; %s shows it" % command_text("plan", operand(path))
@@ -62,7 +71,7 @@ def refused_inputs(a: Arguments, refused: Refused) -> int:
     """Tells that what the arguments name is refused, and which command shows why; the status."""
     if is_packed(a.files):
         return refused_file(a.files[0], refused, a.plan)
-    hint = "; %s shows it" % command_for_tables(a.files) if refused.number == NONE_FOUND else ""
+    hint = "; %s shows it" % command_for_tables(a.files, a.copies) if refused.number == NONE_FOUND else ""
     tell("%s%s" % (refused, hint))
     return REFUSED
 
@@ -82,26 +91,44 @@ def operand(path: str) -> str:
     return os.path.join(os.curdir, path) if path.startswith("-") else path
 
 
-def command_for_tables(paths: Sequence[str]) -> str:
+def command_for_tables(paths: Sequence[str], copies: Optional[str]) -> str:
     """The command that draws the plan that is found for CSV files, or what remains of them. A file's name with = in it
     gets its folder, or it would be a table to come."""
     words = [os.path.join(os.curdir, path) if GIVEN_TABLE.fullmatch(path) else operand(path) for path in paths]
-    return command_text("plan", "--tables", *words)
+    options = [] if copies is None else option("--copies", copies)
+    return command_text("plan", *options, "--tables", *words)
 
 
-def load_inputs(a: Arguments) -> Tuple[bytes, Names]:
+def load_inputs(a: Arguments) -> Inputs:
     """The file to join: packed out of CSV files, or given packed, then with another plan if one is given."""
     if not is_packed(a.files):
-        return csvfiles.pack([csvfiles.read(path) for path in a.files], a.plan, a.attributes, a.text)
+        return pack_inputs(a)
     if a.attributes is not None or a.text is not None:
         raise InputError("--attributes and --text go with CSV files, and %s is taken as a packed file" % a.files[0])
+    if a.copies is not None or a.fold:
+        raise InputError("--copies and --fold go with CSV files, and %s is taken as a packed file" % a.files[0])
     data, names = load_packed(a.files[0])
     if a.plan is not None:
         file = fileformat.read(data, names)
-        if file.fault and file.fault.number <= LAST_OF_RECORDS:
+        if file.fault and file.fault.kind is Kind.OFFSET:
             raise file.fault
         data = data[: file.plan_at] + fileformat.plan_record(plans.code_of(a.plan, table_names(file, names)))
-    return data, names
+    return Inputs(data, names)
+
+
+def pack_inputs(a: Arguments) -> Inputs:
+    """The file that is packed out of CSV files."""
+    sheets = csvfiles.read_all(a.files, csvfiles.reading_of(a.copies, a.text, a.fold))
+    return Inputs(*csvfiles.pack(sheets, a.plan, a.attributes, a.text), sheets)
+
+
+def plan_for_folded(file: fileformat.File, names: Names, sheets: Sequence[csvfiles.Sheet]) -> Optional[OtherPlan]:
+    """What is followed in place of the plan of a file that is packed out of folded CSV files, if that is not what is
+    followed where they are not folded."""
+    if not file.plan:
+        return None
+    before = [plans.Shape(table.attributes, sheet.folding.taken) for table, sheet in zip(file.tables, sheets)]
+    return other_plan(file.plan, before, file.tables, names)
 
 
 def table_names(file: fileformat.File, names: Names) -> List[str]:
@@ -118,8 +145,8 @@ def join(a: Arguments) -> int:
         if is_packed(a.files):
             return refused_file(a.files[0], refused, a.plan)
         hints = {
-            LAST_OF_PLANS: "; --explain draws the plan",
-            NONE_FOUND: "; %s shows it" % command_for_tables(a.files),
+            NO_HOLDER: "; --explain draws the plan",
+            NONE_FOUND: "; %s shows it" % command_for_tables(a.files, a.copies),
         }
         tell("%s%s" % (refused, "" if a.explain else hints.get(refused.number, "")))
         return REFUSED
@@ -130,8 +157,10 @@ def join_and_write(a: Arguments) -> int:
     engine = engine_named(a.engine, "--engine")
     if a.output != "-":
         files.refuse_target(a.output, a.files + [path + NAMES_ENDING for path in a.files])
-    data, names = load_inputs(a)
+    data, names, sheets = load_inputs(a)
     file = fileformat.read(data, names)
+    if a.fold:
+        refuse_another_order(plan_for_folded(file, names, sheets))
     drawing = drawing_of(file, names) if a.explain else None
     if drawing:
         tell("\n".join(drawing.tree(followed_alone=True)), prefix="")
@@ -144,6 +173,17 @@ def join_and_write(a: Arguments) -> int:
     else:
         files.save([(a.output, text.encode("utf-8"))])
     return DONE
+
+
+def refuse_another_order(other: Optional[OtherPlan]) -> None:
+    """Refuses to fold where the rows would stand in another order than without it."""
+    if other:
+        raise InputError("--fold: %s; %s keeps the order" % (other, plan_option(other.before)))
+
+
+def plan_option(plan: str) -> str:
+    """The option for a plan, as a shell takes it."""
+    return " ".join(map(shlex.quote, option("--plan", plan)))
 
 
 def drawing_of(file: fileformat.File, names: Names) -> Optional[Drawn]:
@@ -165,16 +205,16 @@ def view(a: Arguments) -> int:
 def view_results(a: Arguments) -> int:
     """Shows what the arguments name: on a terminal for as long as the user likes, else one page as text."""
     at = None if a.at is None else viewing.number_in(a.at, "--at")
-    rows = None if a.find is None else viewing.numbers_in(a.find, "a row number of --find")
+    pairs = None if a.find is None else viewing.pairs_in(a.find, " of --find")
     size = PAGE if a.rows is None else viewing.number_in(a.rows, "--rows")
     if size == 0:
         raise InputError("--rows is at least 1")
-    if at is not None and rows is not None:
+    if at is not None and pairs is not None:
         raise InputError("--at and --find both say with which result to begin; give one of them")
-    data, names = load_inputs(a)
+    data, names, _ = load_inputs(a)
     tables, first = Tables(data, names), 0
-    if rows is not None:
-        first = tables.number_of(rows)
+    if pairs is not None:
+        first = tables.number_of(*pairs)
     elif at is not None:
         first = tables.result(at).n
     layout = viewing.Layout(tables, fileformat.read(data, names), names)
@@ -190,7 +230,7 @@ def view_results(a: Arguments) -> int:
 def count(a: Arguments) -> int:
     """Counts the results of a join and the bytes that they take, without writing them."""
     try:
-        size = count_bytes(*load_inputs(a))
+        size = count_bytes(*load_inputs(a)[:2])
     except Refused as refused:
         return refused_inputs(a, refused)
     least = "at least " if size.at_least else ""
@@ -206,21 +246,37 @@ def pack(a: Arguments) -> int:
         files.refuse_target(path, a.files)
     if not a.force:
         refuse_foreign(a.out)
-    sheets = [csvfiles.read(path) for path in a.files]
-    data, names = csvfiles.pack(sheets, a.plan, a.attributes, a.text)
+    data, names, sheets = pack_inputs(a)
     file = fileformat.read(data, names)
     if file.fault and not a.anyway:
-        draws = command_for_tables(a.files) if file.found else "pigrozd plan"
+        draws = command_for_tables(a.files, a.copies) if file.found else "pigrozd plan"
         tell("%s; nothing is written (--anyway writes it, %s draws it)" % (file.fault, draws))
         return REFUSED
     files.save([(a.out, data), (named, names_text(names, data).encode("utf-8"))])
-    sizes = {"byte": len(data), "table": len(file.tables), "row": file.row_count()}
-    told = ", ".join(messages.count(number, thing) for thing, number in sizes.items())
-    write_out("%s: %s%s\n" % (a.out, told, ", no plan" if file.found else ""))
+    write_out("%s: %s%s\n" % (a.out, sizes_in_words(file), ", no plan" if file.found else ""))
+    if a.fold:
+        tell_folded(file, names, sheets)
     note = program_refuses(file)
     if note:
         tell("note: " + note)
     return DONE
+
+
+def sizes_in_words(file: fileformat.File) -> str:
+    """How many bytes, tables and rows a file has, and how many copies, if some rows are counted."""
+    sizes = {"byte": len(file.data), "table": len(file.tables), "row": file.row_count()}
+    if file.is_counted():
+        sizes["copy"] = file.pair_count()
+    return ", ".join(messages.count(number, thing) for thing, number in sizes.items())
+
+
+def tell_folded(file: fileformat.File, names: Names, sheets: Sequence[csvfiles.Sheet]) -> None:
+    """Tells what folding saved; and if a plan is mended in another way for it, what is followed."""
+    for line in folding.in_words([sheet.folded for sheet in sheets]):
+        write_out(line + "\n")
+    other = plan_for_folded(file, names, sheets)
+    if other:
+        tell("note: %s; %s keeps the order" % (other, plan_option(other.before)))
 
 
 def refuse_foreign(out: str) -> None:
@@ -256,7 +312,7 @@ def unpack(a: Arguments) -> int:
     """Writes the tables of a packed file as CSV files, and prints the command that packs them again."""
     data, names = load_packed(a.file)
     file = fileformat.read(data, names)
-    if file.fault and file.fault.number < LAST_OF_RECORDS:
+    if file.fault and file.fault.kind is Kind.OFFSET and file.fault.number != BEHIND_PLAN:
         return refused_file(a.file, file.fault)
     paths = [os.path.join(a.dir, name + csvfiles.ENDING) for name in table_names(file, names)]
     texts = [csvfiles.table_text(file, table, names) for table in file.tables]
@@ -282,6 +338,8 @@ def command_to_pack(out: str, file: fileformat.File, names: Names, paths: Sequen
     )
     options = option("--plan", plans.to_text(file.plan, names.table)) if file.plan else []
     options += option("--attributes", attributes)
+    if file.is_counted():
+        options += option("--copies", names.copies_column())
     texts = [names.attribute(n) for n in used if n in names.texts]
     if texts:
         options += option("--text", csvfiles.csv_line(texts))
@@ -315,14 +373,14 @@ def rows(a: Arguments) -> int:
 
 def what_helps(path: str, refused: Refused, values: int) -> str:
     """What to do about a refusal that the program printed for a file whose results have so many values."""
-    if refused.number <= LAST_OF_PLANS:
+    if refused.kind in (Kind.OFFSET, Kind.PLAN_INDEX):
         answer = (str(refused.number), str(refused.detail))
         return "%s shows the place" % command_text("dump", operand(path), "--answer", *answer)
     if refused.number == NONE_FOUND:
         return "%s shows why" % command_text("plan", operand(path))
     if refused.number == TOO_MANY_CHOICES:
         return "it is the slow engine's answer, and this program never gives it"
-    if refused.number >= NO_SUCH_RESULT:
+    if refused.number in (NO_SUCH_RESULT, NOT_A_RESULT, ROW_SHORT):
         return "it is an answer of calls for one result, and this program never gives it"
     if refused.number == TOO_MANY_RESULTS and refused.detail * values > MOST_OUTPUT:
         return "no output fits them, and %s says how many bytes they take" % command_text("count", operand(path))
@@ -381,12 +439,14 @@ def plan(a: Arguments) -> int:
     is refused, or none can be found."""
     if a.tables and a.plan is not None:
         raise InputError("--plan goes with a FILE, --tables with a PLAN")
+    if not a.tables and a.copies is not None:
+        raise InputError("--copies goes with --tables")
     if not a.tables and a.what is None:
         raise InputError("a packed FILE is wanted, or --tables, with a PLAN before it or without one")
     if not a.tables and a.what.startswith("("):
         raise InputError("a PLAN needs --tables")
     try:
-        drawing = drawing_of_tables(a.what, a.tables) if a.tables else drawing_of_file(a.what, a.plan)
+        drawing = drawing_of_tables(a.what, a.tables, a.copies) if a.tables else drawing_of_file(a.what, a.plan)
     except Refused as refused:
         if a.tables:
             raise
@@ -400,41 +460,50 @@ def drawing_of_file(path: str, text: Optional[str]) -> Drawn:
     data, names = load_packed(path)
     file = fileformat.read(data, names)
     drawing = drawing_of(file, names) if text is None else None
-    if file.fault and not drawing and (text is None or file.fault.number <= LAST_OF_RECORDS):
+    if file.fault and not drawing and (text is None or file.fault.kind is Kind.OFFSET):
         raise file.fault
     return drawing or checked_drawing(text or "", file.tables, names)
 
 
-def drawing_of_tables(text: Optional[str], given: Sequence[str]) -> Drawn:
+def drawing_of_tables(text: Optional[str], given: Sequence[str], copies: Optional[str]) -> Drawn:
     """The drawing of a plan for CSV files, or for tables given as NAME=ATTRIBUTE,ATTRIBUTE; without a plan, of the one
-    that is found for them."""
-    sheets = [given_table(table) for table in given]
-    names = csvfiles.names_of([sheet for sheet, _ in sheets])
-    shapes = [plans.Shape(csvfiles.attributes_of(sheet, names), rows) for sheet, rows in sheets]
+    that is found for them. The copies of rows stand in the column of this name."""
+    reading = csvfiles.reading_of(copies, None)
+    sheets = [given_table(table, reading) for table in given]
+    csvfiles.check_copies(sheets, reading)
+    names = csvfiles.names_of(sheets)
+    shapes = [shape_of(sheet, names) for sheet in sheets]
     return drawing_without_plan(shapes, names) if text is None else checked_drawing(text, shapes, names)
 
 
-def given_table(text: str) -> Tuple[csvfiles.Sheet, Optional[int]]:
-    """A table of --tables with its number of rows: a CSV file, or NAME=ATTRIBUTE,.. whose rows are not known."""
+def shape_of(sheet: csvfiles.Sheet, names: Names) -> plans.Shape:
+    """What a plan is checked against of a table. The rows of one that is no CSV file are not known."""
+    attributes, copies = csvfiles.attributes_of(sheet, names), sheet.folding.copies
+    if GIVEN_TABLE.fullmatch(sheet.path):
+        return plans.Shape(attributes, None)
+    return plans.Shape(attributes, len(copies), counted=sheet.counted, pairs=sum(copies))
+
+
+def given_table(text: str, reading: csvfiles.Reading) -> csvfiles.Sheet:
+    """A table of --tables: a CSV file, or NAME=ATTRIBUTE,.. whose rows are not known."""
     found = GIVEN_TABLE.fullmatch(text)
     if not found:
         if text.startswith("(") and not os.path.exists(text):
             raise InputError("%s is no file; a PLAN stands before --tables" % text)
-        sheet = csvfiles.read(text)
-        return sheet, len(sheet.rows)
-    sheet = csvfiles.Sheet(text)
+        return csvfiles.read(text, reading)
+    sheet = csvfiles.Sheet(text, reading)
     sheet.name = found[1]
     fault = fault_of_table_name(sheet.name)
     if fault:
         raise InputError("--tables %s: %s" % (text, fault))
     csvfiles.read_header(sheet, 1, csvfiles.name_list(found[2], "--tables"))
-    return sheet, None
+    return sheet
 
 
 def checked_drawing(text: str, tables: Sequence[plans.Shape], names: Names) -> Drawing:
     """The drawing of a plan given as text. A plan that does not name each table once is refused."""
     code = plans.code_of(text, [names.table(number) for number in range(len(tables))])
     fault = plans.check(code, tables, names)
-    if fault and fault.number < LAST_OF_PLANS:
+    if fault and fault.number != NO_HOLDER:
         raise fault
     return Drawing(plans.from_bytes(code), tables, names)

@@ -25,9 +25,16 @@ class DrawnTables:
         rows = self.tables[table].rows
         return "rows not known" if rows is None else count(rows, "row")
 
+    def rows_and_copies(self, table: int) -> str:
+        """A table's number of rows, and that of their copies if it is counted, in words."""
+        rows, shape = self.rows(table), self.tables[table]
+        if not shape.counted or shape.pairs is None:
+            return rows
+        return "%s, %s" % (rows, count(shape.pairs, "copy"))
+
     def table(self, table: int) -> List[str]:
         """A table in words: its name, its number of rows, its attributes."""
-        return [self.names.table(table), self.rows(table), self.names.list(self.tables[table].attributes)]
+        return [self.names.table(table), self.rows_and_copies(table), self.names.list(self.tables[table].attributes)]
 
 
 class Drawing(DrawnTables):

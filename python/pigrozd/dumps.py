@@ -2,10 +2,10 @@
 from typing import Callable, List, Optional, Tuple
 
 from . import fileformat, finding, mending, plans
-from .answers import LAST_OF_PLANS, LAST_OF_RECORDS, MEANINGS, NONE_FOUND, NOT_A_RESULT, ROW_SHORT, TOO_MANY_CHOICES
+from .answers import IN_FILE, MEANINGS, NOT_A_RESULT, ROW_SHORT, TOO_MANY_CHOICES, Kind
 from .fileformat import File
 from .limits import MOST_ATTRIBUTES, MOST_CHOICES, MOST_ROWS, PROGRAM_BYTES
-from .messages import count
+from .messages import count, listed
 from .names import Names
 from .values import NOT_RECORDED
 
@@ -68,8 +68,9 @@ class Dump:
     def table(self, at: int, title: str) -> int:
         """A table record as far as it is there; where what was read of it ends."""
         data = self.file.data
+        counted = data[at : at + 2] == fileformat.COUNTED_MARK
         self.title(at, title)
-        self.field(at, at + 2, lambda a, b: "mark of a table")
+        self.field(at, at + 2, lambda a, b: "mark of a table with copies" if counted else "mark of a table")
         mask, rows = fileformat.number_at(data, at + 2), fileformat.number_at(data, at + 6)
         attributes = fileformat.attributes_of(mask)
         named = "attributes " + ", ".join(map(self.attribute, attributes)) if attributes else "no attributes"
@@ -77,23 +78,25 @@ class Dump:
         self.field(at + 6, at + 10, lambda a, b: "cut" if b < at + 10 else count(rows, "row"))
         if len(data) < at + 10 or not 1 <= len(attributes) <= MOST_ATTRIBUTES or rows > MOST_ROWS:
             return at + 10
-        table = fileformat.Table(at, attributes, rows)
+        table = fileformat.Table(at, attributes, rows, counted=counted)
+        self.column(table.copies_at, "copies of ", str)
         for place, attribute in enumerate(attributes):
-            self.field(*table.column(place), self.values_of(attribute, table.column(place)[0]))
+            self.column(table.column(place), self.names.attribute(attribute) + ", ", word_in_words)
         return table.end()
 
-    def values_of(self, attribute: int, start: int) -> Describe:
-        """What describes the values of a column that begins at an offset."""
+    def column(self, between: Tuple[int, int], called: str, in_words: Callable[[int], str]) -> None:
+        """The column between two offsets, with what it is called before its rows, and what each of its words says."""
+        start, end = between
 
         def describe(a: int, b: int) -> str:
-            values = [word_in_words(fileformat.number_at(self.file.data, i)) for i in range(a, b - 3, 4)]
+            values = [in_words(fileformat.number_at(self.file.data, i)) for i in range(a, b - 3, 4)]
             first = (a - start) // 4
             last = first + len(values) - 1
             where = "row %d" % first if first >= last else "rows %d to %d" % (first, last)
             cut = ["cut"] if (b - a) % 4 else []
-            return "%s, %s: %s" % (self.names.attribute(attribute), where, " ".join(values + cut))
+            return "%s%s: %s" % (called, where, " ".join(values + cut))
 
-        return describe
+        self.field(start, end, describe)
 
     def plan(self, at: int) -> int:
         """The plan record as far as it is there; where it ends."""
@@ -110,7 +113,8 @@ class Dump:
     def record_at_fault(self, at: int) -> None:
         """The record at an offset, which is at fault, as far as it can be read."""
         mark = self.file.data[at : at + 2]
-        if mark == fileformat.TABLE_MARK and self.file.fault and self.file.fault.number != 5:
+        is_table = mark in (fileformat.TABLE_MARK, fileformat.COUNTED_MARK)
+        if is_table and self.file.fault and self.file.fault.number != 5:
             self.rest(self.table(at, "table %d, not taken" % len(self.file.tables)), "not read")
         elif mark == fileformat.PLAN_MARK:
             self.plan(at)
@@ -122,7 +126,8 @@ class Dump:
         file = self.file
         for number, table in enumerate(file.tables):
             name = self.names.tables.get(number)
-            self.table(table.at, "table %d%s" % (number, name and " " + name or ""))
+            copies = ", " + count(table.pairs, "copy") if table.counted else ""
+            self.table(table.at, "table %d%s%s" % (number, name and " " + name or "", copies))
         at = file.tables[-1].end() if file.tables else 0
         if file.plan_at is not None:
             self.rest(self.plan(at), "behind the plan")
@@ -176,13 +181,15 @@ def byte_in_words(byte: int, join: Optional[plans.Join], file: File, names: Name
 
 
 def summary(path: str, file: File, names: Names) -> List[str]:
-    """The first lines of a dump: the file, its answer as far as 9 and 14, and the plan that a join follows."""
+    """The first lines of a dump: the file, its answer as far as 9, 14 and 19, and the plan that a join follows."""
     first = "%s: %s, %s, %s" % (
         path,
         count(len(file.data), "byte"),
         count(len(file.tables), "table"),
         count(file.row_count(), "row"),
     )
+    if file.is_counted():
+        first += ", " + count(file.pair_count(), "copy")
     if file.plan:
         first += ", plan " + plans.to_text(file.plan, names.table)
     elif file.found:
@@ -202,8 +209,9 @@ def summary(path: str, file: File, names: Names) -> List[str]:
 
 def followed_in_words(file: File, mended: mending.Mended, names: Names) -> List[str]:
     """That no refusal is due as far as the reader goes, and which plan a join follows if it is not the file's own."""
-    first = "within the rules: none of the answers 1 to %s is due; the scratch needed is %s, a result has %s" % (
-        "7 and 14" if file.found else "9",
+    others = ["14"] * bool(file.found) + ["19"] * file.is_counted()
+    first = "within the rules: none of the answers %s is due; the scratch needed is %s, a result has %s" % (
+        listed(["1 to 7" if file.found else "1 to 9", *others]),
         count(plans.words_needed(mended.plan, file.tables), "word"),
         count(len(plans.width(file.tables)), "value"),
     )
@@ -219,7 +227,7 @@ def doubt(file: File, number: int, detail: int) -> Optional[str]:
         return "this file has no more than 65,536 bytes" if len(file.data) <= PROGRAM_BYTES else None
     if fault and (number, detail) != (fault.number, fault.detail):
         return "this file is refused with %d %d" % (fault.number, fault.detail)
-    if not fault and (1 <= number <= LAST_OF_PLANS or number == NONE_FOUND):
+    if not fault and MEANINGS[number].kind in IN_FILE:
         return "this file is within the rules"
     if number == 10 and file.mended and detail != plans.words_needed(file.mended.plan, file.tables):
         return "this file needs %s" % count(plans.words_needed(file.mended.plan, file.tables), "word")
@@ -244,9 +252,9 @@ def dump(
         lines.append("answer %d %d: %s%s" % (*answer, MEANINGS[answer[0]].means, wrong and "; but " + wrong or ""))
     number, detail = answer
     mark = fileformat.offset_of(file, number, detail)
-    if mark is None and LAST_OF_RECORDS < number <= LAST_OF_PLANS:
+    if mark is None and MEANINGS[number].kind is Kind.PLAN_INDEX:
         lines.append("nothing is marked: the file has no whole plan record")
-    elif mark is None and number == NONE_FOUND:
+    elif mark is None and MEANINGS[number].kind is Kind.TABLE:
         lines.append("nothing is marked: the file has no table %d" % detail)
     elif mark is not None and mark > len(file.data):
         lines.append("nothing is marked: offset %d is behind the file's end" % mark)

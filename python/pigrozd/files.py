@@ -10,7 +10,7 @@ from typing import BinaryIO, Iterable, List, Tuple
 
 from .messages import InputError
 
-MOST_READ = 2**24  # bytes of an input that are read; document 01's longest file has 2,097,570
+MOST_READ = 2**24  # bytes of an input that are read; the longest file within the rules has 2,359,714
 STREAMS = re.compile(r"/dev/(stdin|stdout|stderr)|/dev/fd/.*|/proc/.*")  # these may lead to a regular file
 
 

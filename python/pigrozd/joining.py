@@ -4,7 +4,7 @@ import warnings
 from typing import Dict, Optional, Tuple, Union
 
 from . import plans
-from .answers import LAST_OF_PLANS, NONE_FOUND, TOO_MANY_CHOICES, TOO_MANY_RESULTS, Refused
+from .answers import IN_FILE, MEANINGS, TOO_MANY_CHOICES, TOO_MANY_RESULTS, Refused
 from .fileformat import File, plan_record, read
 from .files import load
 from .library import Answer, BytesLike, Engine, NumberAnswer, ResultAnswer, SlowAnswer
@@ -26,16 +26,17 @@ def join(tables: GivenTables, plan: Optional[plans.GivenPlan] = None, engine: En
     """Joins tables, by a plan or without one: a Result, or Refused.
 
     tables: a list of tables, or a mapping of table names to tables. A table is a mapping of attributes to columns, a
-    pandas DataFrame, a NumPy structured array, or a Result. An attribute is a name or a number from 0 to 31, in all
-    tables alike. None, NaN and masked values are not recorded: they match nothing, and come back as None.
+    pandas DataFrame, a NumPy structured array, or a Result; or one of these with copies of its rows, as `counted` and
+    `fold` give them. An attribute is a name or a number from 0 to 31, in all tables alike. None, NaN and masked values
+    are not recorded: they match nothing, and come back as None.
 
     plan: a table's name or number, or a pair of plans, such as ("frames", ("exposures", "readings")); or a text, such
     as "(frames (exposures readings))"; or the plan's bytes, as a file has them. Without a plan, or with no bytes, the
     library finds one if there is one. A plan that is not well-behaved is mended. The result names the plan that was
     followed.
 
-    engine: "join"; or "slow" for the slow engine, which goes through every choice of rows and gives the same result,
-    without counts. It refuses tables that have more than 1,048,576 choices.
+    engine: "join"; or "slow" for the slow engine, which goes through every choice of rows and their copies and gives
+    the same result, without counts. It refuses tables that have more than 1,048,576 choices.
     """
     engine = engine_named(engine, "engine")
     data, names, keys = packed(tables, plan)
@@ -133,7 +134,7 @@ def followed(file: File, names: Names) -> Tuple[str, bytes, bool, bool]:
 def refusal(answer: AnyAnswer, file: File, names: Names) -> Refused:
     """The library's refusal of a file, in these names. 11 is that of a join."""
     number, detail = answer.number, answer.detail
-    if number <= LAST_OF_PLANS or number == NONE_FOUND:
+    if MEANINGS[number].kind in IN_FILE:
         fault = file.fault
         return fault if fault and (fault.number, fault.detail) == (number, detail) else Refused(number, detail)
     if number == TOO_MANY_RESULTS:
@@ -162,7 +163,10 @@ def every_pair(file: File, names: Names) -> str:
 
 def too_many_choices(file: File) -> str:
     """How many choices there are, how many the slow engine goes through, and what to do."""
+    chosen, fewer = "one row", "fewer rows"
+    if file.is_counted():
+        chosen, fewer = "one copy of one row", "fewer rows or copies"
     return (
-        "one row of each table makes {}, and the slow engine goes through {:,} at most; give it fewer rows, or leave "
-        "the tables to the join"
-    ).format(plans.choices_in_words(file.tables), MOST_CHOICES)
+        "{} of each table makes {}, and the slow engine goes through {:,} at most; give it {}, or leave the tables to "
+        "the join"
+    ).format(chosen, plans.choices_in_words(file.tables), MOST_CHOICES, fewer)

@@ -1,5 +1,5 @@
 """The shared library: found, loaded, and called through ctypes. include/pigrozd.h declares its four functions: the
-join, the slow engine, one result by its number, and the number of a result by its rows."""
+join, the slow engine, one result by its number, and the number of a result by its rows and copies."""
 import array
 import ctypes
 import functools
@@ -7,7 +7,7 @@ import operator
 import os
 from typing import Any, Dict, Iterable, Literal, NamedTuple, Optional, Tuple, Union, cast
 
-from .fileformat import read
+from .fileformat import COUNTED_MARK, read
 from .limits import MOST_OUTPUT, MOST_TABLES
 from .messages import InputError
 from .plans import width
@@ -16,7 +16,7 @@ VARIABLE = "PIGROZD_LIBRARY"
 FILE_NAME = "libpigrozd.so"
 FIRST_OUTPUT = 16384  # words of output lent at first
 HIGHEST_NUMBER = 2**64 - 1  # the highest n that can be given
-HIGHEST_WORD = 2**32 - 1  # the highest row number that can be given
+HIGHEST_WORD = 2**32 - 1  # the highest row number that can be given, and the highest copy
 
 BytesLike = Union[bytes, bytearray, memoryview]
 Engine = Literal["join", "slow"]
@@ -48,11 +48,13 @@ class SlowAnswer(NamedTuple):
 
 class ResultAnswer(NamedTuple):
     """What the library answers of one result: the numbers of struct pigrozd_result_answer. `rows` has 16 row numbers,
-    by table number; those past the last table are 0, and all of them are after a refusal."""
+    by table number, and `copies` says which copy of each of these rows it is, from 0; those past the last table are 0,
+    and all of them are after a refusal."""
 
     number: int
     detail: int
     rows: Tuple[int, ...]
+    copies: Tuple[int, ...]
 
 
 class NumberAnswer(NamedTuple):
@@ -82,6 +84,7 @@ class ResultAnswerStruct(ctypes.Structure):
         ("number", ctypes.c_uint64),
         ("detail", ctypes.c_uint64),
         ("rows", ctypes.c_uint32 * MOST_TABLES),
+        ("copies", ctypes.c_uint32 * MOST_TABLES),
     ]
 
 
@@ -99,7 +102,7 @@ FUNCTIONS: Dict[str, Tuple[Any, Any]] = {  # what each takes, and what it gives
     JOIN: (FILE + WORDS + WORDS, AnswerStruct),
     SLOW: (FILE + WORDS, SlowAnswerStruct),
     RESULT_AT: (FILE + WORDS + [ctypes.c_uint64] + WORDS, ResultAnswerStruct),
-    NUMBER_OF: (FILE + WORDS + WORDS, NumberAnswerStruct),
+    NUMBER_OF: (FILE + WORDS + WORDS + WORDS, NumberAnswerStruct),
 }
 
 
@@ -137,15 +140,30 @@ def library() -> Any:
 
 @functools.lru_cache(maxsize=None)
 def function(name: str) -> Any:
-    """A function of the loaded library."""
+    """A function of the loaded library, which has it and knows tables with copies."""
     loaded = library()
     if not hasattr(loaded, name):
-        what = "an older library of Pigrozd's" if hasattr(loaded, JOIN) else "not Pigrozd's library"
-        told = "%s is %s: it has no function %s (%s names the library)"
-        raise LibraryError(told % (place(), what, name, VARIABLE))
+        raise unusable("it has no function " + name, older=hasattr(loaded, JOIN))
     found = getattr(loaded, name)
     found.argtypes, found.restype = FUNCTIONS[name]
+    if name != JOIN:
+        function(JOIN)
+    elif not knows_copies(found):
+        raise unusable("it knows no tables with copies", older=True)
     return found
+
+
+def knows_copies(join: Any) -> bool:
+    """Whether the library with this join knows tables with copies. It answers 1 to a file that ends behind their mark,
+    and an older one answers 2. Functions of an older one take and give something else under the same names."""
+    no_words = lent(zeros(0))
+    return bool(join(COUNTED_MARK, len(COUNTED_MARK), *no_words, *no_words).number == 1)
+
+
+def unusable(why: str, older: bool) -> LibraryError:
+    """The error that the loaded library cannot be used."""
+    what = "an older library of Pigrozd's" if older else "not Pigrozd's library"
+    return LibraryError("%s is %s: %s (%s names the library)" % (place(), what, why, VARIABLE))
 
 
 # ---- calling
@@ -228,19 +246,28 @@ def call_result_at(file: BytesLike, scratch: Any, n: int, row: Any) -> ResultAns
     number = number_up_to(HIGHEST_NUMBER, n, "the number of a result")
     scratch_words, scratch_count, *row_lent = lent_apart(scratch, row, "row")
     given = function(RESULT_AT)(data, len(data), scratch_words, scratch_count, number, *row_lent)
-    return ResultAnswer(given.number, given.detail, tuple(given.rows))
+    return ResultAnswer(given.number, given.detail, tuple(given.rows), tuple(given.copies))
 
 
-def call_number_of(file: BytesLike, scratch: Any, rows: Iterable[int]) -> NumberAnswer:
+def call_number_of(
+    file: BytesLike, scratch: Any, rows: Iterable[int], copies: Optional[Iterable[int]] = None
+) -> NumberAnswer:
     """One call for the number of the result that is made of these rows: its NumberAnswer, refusals too.
 
-    It is given the bytes of a file, a writable buffer of 32-bit words, which is needed as scratch as by `call`, and
-    the row number of each table, by table number: numbers from 0 to 2**32 - 1, however many."""
+    It is given the bytes of a file, a writable buffer of 32-bit words, which is needed as scratch as by `call`, the
+    row number of each table, by table number, and which copy of that row is meant: numbers from 0 to 2**32 - 1,
+    however many. Without copies the first one of each row is meant, copy 0."""
     data = bytes_of(file)
-    numbers = [number_up_to(HIGHEST_WORD, row, "a row number") for row in rows]
-    words = (ctypes.c_uint32 * max(len(numbers), 1))(*numbers)  # an address also where there is none
-    given = function(NUMBER_OF)(data, len(data), *lent(scratch), words, len(numbers))
+    row_words, rows_there = given_words(rows, "a row number")
+    copy_words, copies_there = given_words([0] * rows_there if copies is None else copies, "a copy number")
+    given = function(NUMBER_OF)(data, len(data), *lent(scratch), row_words, rows_there, copy_words, copies_there)
     return NumberAnswer(given.number, given.detail, given.n)
+
+
+def given_words(numbers: Iterable[int], called: str) -> Tuple[Any, int]:
+    """Numbers as the words at an address, also where there are none; and how many there are."""
+    taken = [number_up_to(HIGHEST_WORD, number, called) for number in numbers]
+    return (ctypes.c_uint32 * max(len(taken), 1))(*taken), len(taken)
 
 
 def zeros(count: int) -> "array.array[int]":

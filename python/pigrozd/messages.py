@@ -7,8 +7,9 @@ class InputError(ValueError):
 
 
 def count(number: int, thing: str) -> str:
-    """A number with its noun: 1 row, 4,096 rows."""
-    return "{:,} {}{}".format(number, thing, "" if number == 1 else "s")
+    """A number with its noun: 1 row, 4,096 rows, 2 copies."""
+    several = thing[:-1] + "ies" if thing.endswith("y") else thing + "s"
+    return "{:,} {}".format(number, thing if number == 1 else several)
 
 
 def listed(names: Sequence[str], last: str = "and") -> str:

@@ -3,15 +3,17 @@
     sha256 6b3c..       the file that these names belong to has this digest
     0 frame             attribute 0 is called frame
     table 0 frames      table 0 is called frames
+    copies times        the column of copies is called times
     text 1 7 dark       value 7 of attribute 1 stands for the text dark
 
 A name goes on to the end of its line. Lines that begin with # and empty lines say nothing. Without a digest the names
 are taken as they are: so they can be written by hand. With one that is not the file's, all of them are left out.
 """
 import hashlib
+import itertools
 import os
 import re
-from typing import Callable, Dict, Iterable, Optional, Set, Tuple
+from typing import Any, Callable, Dict, Iterable, Optional, Set, Tuple
 
 from .files import load
 from .limits import ATTRIBUTE_NUMBERS, MOST_TABLES
@@ -20,27 +22,35 @@ from .messages import InputError
 
 NAMES_ENDING = ".names"
 LINE = re.compile(r"(?:(?P<table>table) |text (?P<text>[0-9]{1,2}) )?(?P<number>[0-9]{1,10}) (?P<name>.*)")
+COPIES_LINE = "copies "  # how the line begins that names the column of copies
+COPIES = "copies"  # what that column is called if it has no name
 DIGEST_LINE = re.compile(r"^sha256 ([0-9a-f]{64})\r?$", re.MULTILINE)
 
 
 class Names:
     """The names in a file: of attributes and tables by number, and the texts that values stand for, by attribute.
 
+    `copies` is the name of the column of copies, the same in all tables that have one; it is empty if it has no name.
     `unnamed` is what a table without a name is called, with %d for its number."""
 
     def __init__(self, unnamed: str = "table%d") -> None:
         self.attributes: Dict[int, str] = {}
         self.tables: Dict[int, str] = {}
         self.texts: Dict[int, Dict[int, str]] = {}
+        self.copies = ""
         self.unnamed = unnamed
 
     def attribute(self, number: int) -> str:
         """The attribute's name; a0, a1 and so on without one."""
-        return self.attributes.get(number) or unused("a%d" % number, self.attributes.values())
+        return self.attributes.get(number) or unused("a%d" % number, [*self.attributes.values(), self.copies])
 
     def table(self, number: int) -> str:
         """The table's name; table0, table1 and so on without one."""
         return self.tables.get(number) or unused(self.unnamed % number, self.tables.values())
+
+    def copies_column(self) -> str:
+        """The name of the column of copies; copies without one, or copies_2 and so on if an attribute is called so."""
+        return self.copies or free_copies_name(self.attributes.values())
 
     def table_in_plan(self, number: int) -> str:
         """What the text of a plan calls the table: its name, or its number if it has none that can stand there."""
@@ -59,6 +69,13 @@ def unused(name: str, taken: Iterable[str]) -> str:
     return name
 
 
+def free_copies_name(taken: Iterable[Any]) -> str:
+    """A name for a column of copies that is not taken: copies, copies_2, copies_3 and so on."""
+    known = set(taken)
+    further = (COPIES + "_%d" % number for number in itertools.count(2))
+    return next(name for name in itertools.chain([COPIES], further) if name not in known)
+
+
 def fault_of_attribute_name(name: str) -> Optional[str]:
     """What is wrong with a name for an attribute, or None."""
     if not name:
@@ -66,6 +83,14 @@ def fault_of_attribute_name(name: str) -> Optional[str]:
     if re.search(r"[\r\n\0\ud800-\udfff]", name):
         return "a line break, a zero or a letter that is not UTF-8 in the name of an attribute"
     return None
+
+
+def fault_of_copies_name(name: str) -> Optional[str]:
+    """What is wrong with a name for the column of copies, or None."""
+    if not name:
+        return "a column of copies without a name"
+    fault = fault_of_attribute_name(name)
+    return fault and fault.replace("an attribute", "a column of copies")
 
 
 def fault_of_table_name(name: str) -> Optional[str]:
@@ -92,6 +117,7 @@ def names_text(names: Names, data: bytes) -> str:
     lines = ["sha256 " + digest(data)]
     lines += ["%d %s" % item for item in sorted(names.attributes.items())]
     lines += ["table %d %s" % item for item in sorted(names.tables.items())]
+    lines += [COPIES_LINE + names.copies] if names.copies else []
     lines += [
         "text %d %d %s" % (a, v, text) for a in sorted(names.texts) for v, text in sorted(names.texts[a].items())
     ]
@@ -115,9 +141,14 @@ def names_in(text: str, path: str) -> Names:
 
 def read_line(line: str, names: Names, seen: Set[Tuple[int, str]]) -> None:
     """Takes one line into the names. `seen` has the names before it, each with the dictionary that it is in."""
+    if line.startswith(COPIES_LINE):
+        read_copies_name(line[len(COPIES_LINE) :].strip(), names, seen)
+        return
     found = LINE.fullmatch(line)
     if not found:
-        raise InputError("expected NUMBER NAME, table NUMBER NAME or text ATTRIBUTE VALUE TEXT, found %r" % line[:80])
+        raise InputError(
+            "expected NUMBER NAME, table NUMBER NAME, text ATTRIBUTE VALUE TEXT or copies NAME, found %r" % line[:80]
+        )
     number, name, fault = int(found["number"]), found["name"], None
     if found["text"]:
         known, most = names.texts.setdefault(int(found["text"]), {}), LARGEST
@@ -137,6 +168,19 @@ def read_line(line: str, names: Names, seen: Set[Tuple[int, str]]) -> None:
         raise InputError("%r is named already" % name)
     known[number] = name
     seen.add((id(known), name))
+
+
+def read_copies_name(name: str, names: Names, seen: Set[Tuple[int, str]]) -> None:
+    """Takes the name of the column of copies. It stands in a line with those of attributes, so none is called so."""
+    fault = fault_of_copies_name(name)
+    if names.copies:
+        fault = "the column of copies has a name already"
+    elif (id(names.attributes), name) in seen:
+        fault = "%r is named already" % name
+    if fault:
+        raise InputError(fault)
+    names.copies = name
+    seen.add((id(names.attributes), name))
 
 
 def load_beside(path: str) -> Optional[bytes]:

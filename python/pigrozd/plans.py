@@ -41,10 +41,16 @@ GivenPlan = Union[str, int, bytes, bytearray, Sequence[Any]]  # a text, a table'
 
 
 class Shape:
-    """What a plan is checked against: a table's attributes, rising, and its number of rows (None: not known)."""
+    """What a plan is checked against: a table's attributes, rising, and its number of rows (None: not known).
 
-    def __init__(self, attributes: Sequence[int], rows: Optional[int]) -> None:
-        self.attributes, self.rows = attributes, rows
+    `counted` tells whether its rows have copies. `pairs` is the number of its pairs, each a row and a copy of it: that
+    of its rows unless it is given."""
+
+    def __init__(
+        self, attributes: Sequence[int], rows: Optional[int], *, counted: bool = False, pairs: Optional[int] = None
+    ) -> None:
+        self.attributes, self.rows, self.counted = attributes, rows, counted
+        self.pairs = rows if pairs is None else pairs
 
 
 # ---- bytes and trees
@@ -331,14 +337,14 @@ def words_needed(plan: Plan, tables: Sequence[Shape]) -> int:
 
 
 def choices(tables: Sequence[Shape]) -> int:
-    """In how many ways one row of each table can be chosen. The tables' rows are known."""
-    return math.prod(table.rows or 0 for table in tables)
+    """In how many ways one row of each table, and one copy of it, can be chosen. The tables' pairs are known."""
+    return math.prod(table.pairs or 0 for table in tables)
 
 
 def choices_in_words(tables: Sequence[Shape]) -> str:
     """That number, and how it comes about where there are several tables: 4 * 4 * 3 = 48 choices."""
-    rows = " * ".join("{:,}".format(table.rows or 0) for table in tables)
-    return (rows + " = " if len(tables) > 1 else "") + count(choices(tables), "choice")
+    pairs = " * ".join("{:,}".format(table.pairs or 0) for table in tables)
+    return (pairs + " = " if len(tables) > 1 else "") + count(choices(tables), "choice")
 
 
 def work_bound(plan: Plan, tables: Sequence[Shape], out: int) -> Tuple[int, str]:

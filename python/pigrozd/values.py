@@ -2,6 +2,9 @@
 
 In a file and in the library's buffers the word 4,294,967,295 is a value that was not recorded. Python programs give
 None, NaN, pandas' NA or a masked element of NumPy's for it, and get None. The number itself is refused.
+
+A column of copies (request U9) is no attribute: it holds a whole number from 1 to 65,535 for each row, and never one
+that was not recorded.
 """
 import array
 import collections.abc
@@ -9,11 +12,14 @@ import operator
 import re
 import struct
 import sys
-from typing import Any, Iterable, List, Optional, Sequence, Union
+from typing import Any, Callable, Iterable, List, Optional, Sequence, Union
+
+from .limits import MOST_COPIES
 
 NOT_RECORDED = 4294967295  # the word of a value that was not recorded
 LARGEST = NOT_RECORDED - 1
 RANGE = "0 to {:,}".format(LARGEST)
+COPIES_RANGE = "1 to {:,}".format(MOST_COPIES)  # of the copies of a row
 NO_VALUE = "%d is the word for a value that was not recorded" % NOT_RECORDED
 TEXT = re.compile("0*([0-9]{1,10})")
 WHOLE_NUMBERS = re.compile("[@=<>!]?[bBhHiIlLqQ]")  # formats of a buffer
@@ -68,22 +74,41 @@ def word_of(value: Any) -> int:
     """The word of a value; TypeError or ValueError if it is none."""
     if is_not_recorded(value):
         return NOT_RECORDED
+    number = whole_number_of(value)
+    if number == NOT_RECORDED:
+        raise ValueError(NO_VALUE + "; give None, a masked element or NaN instead")
+    if not 0 <= number <= LARGEST:
+        raise ValueError("%s is not in %s" % (shown_number(number), RANGE))
+    return number
+
+
+def copies_of(value: Any) -> int:
+    """The copies of a row; TypeError or ValueError if it is no number of copies."""
+    if is_not_recorded(value):
+        raise ValueError("copies that were not recorded; each row has %s" % COPIES_RANGE)
+    number = whole_number_of(value)
+    if not 1 <= number <= MOST_COPIES:
+        raise ValueError("%s is not in %s, which are the copies of a row" % (shown_number(number), COPIES_RANGE))
+    return number
+
+
+def whole_number_of(value: Any) -> int:
+    """The whole number that a value is, of any size; TypeError or ValueError if it is none."""
     if isinstance(value, bool) or getattr(getattr(value, "dtype", None), "kind", "") == "b":
         raise TypeError("%s is a truth value, not a number" % value)
     if isinstance(value, float):
         if not value.is_integer():
             raise ValueError("%s is not a whole number" % value)
-        number = int(value)
-    else:
-        try:
-            number = operator.index(value)
-        except TypeError:
-            raise TypeError("%.60r (%s) is not a whole number" % (value, type(value).__name__)) from None
-    if number == NOT_RECORDED:
-        raise ValueError(NO_VALUE + "; give None, a masked element or NaN instead")
-    if not 0 <= number <= LARGEST:
-        raise ValueError("%s is not in %s" % (number if number.bit_length() <= 128 else "a longer number", RANGE))
-    return number
+        return int(value)
+    try:
+        return operator.index(value)
+    except TypeError:
+        raise TypeError("%.60r (%s) is not a whole number" % (value, type(value).__name__)) from None
+
+
+def shown_number(number: int) -> str:
+    """A number for an error, if it is not too long."""
+    return str(number) if number.bit_length() <= 128 else "a longer number"
 
 
 # ---- a column
@@ -94,20 +119,30 @@ def column_words(values: Any, where: str) -> bytes:
     if isinstance(items, bytes):
         row = row_not_recorded(items)
         if row is not None:
-            at_row(NOT_RECORDED, where, row)
+            at_row(word_of, NOT_RECORDED, where, row)
         return items
     words: List[int] = []
     for row, value in enumerate(items):
         if type(value) is not int or not 0 <= value <= LARGEST:
-            value = at_row(value, where, row)
+            value = at_row(word_of, value, where, row)
         words.append(value)
     return struct.pack("<%dI" % len(words), *words)
 
 
-def at_row(value: Any, where: str, row: int) -> int:
-    """The word of a value; its error says where it stands."""
+def copies_words(values: Any, where: str) -> bytes:
+    """The copies of a table's rows as words. `where` names table and column in an error."""
+    refuse_kind(values, where)
+    items = items_of(values, where)
+    if isinstance(items, bytes):
+        items = struct.unpack("<%dI" % (len(items) // 4), items)
+    words = [at_row(copies_of, value, where, row) for row, value in enumerate(items)]
+    return struct.pack("<%dI" % len(words), *words)
+
+
+def at_row(word: Callable[[Any], int], value: Any, where: str, row: int) -> int:
+    """The word of a value, or of copies; its error says where it stands."""
     try:
-        return word_of(value)
+        return word(value)
     except TypeError as error:
         raise TypeError("%s, row %d: %s" % (where, row, error)) from None
     except ValueError as error:

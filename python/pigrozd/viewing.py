@@ -3,7 +3,7 @@ each key. screens.py has the terminal; nothing here knows of it."""
 import re
 import textwrap
 import unicodedata
-from typing import Callable, Dict, Iterator, List, NamedTuple, Optional, Sequence
+from typing import Callable, Dict, Iterator, List, NamedTuple, Optional, Sequence, Tuple
 
 from . import plans
 from .access import ResultRow, Tables
@@ -22,6 +22,9 @@ HELP = (
     "number N; / and row numbers, and Enter: the result of these rows; r: row numbers or none; left, right: columns; "
     "Esc: leave a question; the page keys, the arrows, Home and End too"
 )
+POINT = "."  # what stands between a row number and a copy number
+COPY_TITLE = POINT + "copy"  # what stands behind the name of a table whose rows have copies
+HELP_OF_COPIES = "; under a table's name with %s, 12%s3 is copy 3 of row 12, and so it is typed" % (COPY_TITLE, POINT)
 
 
 # ---- letters
@@ -57,10 +60,10 @@ def last_of(text: str, width: int) -> str:
     return cut(text[::-1], width)[::-1]
 
 
-def in_column(text: str) -> str:
+def in_column(text: str, widest: int = WIDEST) -> str:
     """A name or a text as a column shows it."""
-    shown = printable(text[: WIDEST + 1])
-    return shown if width_of(shown) <= WIDEST else cut(shown, WIDEST - 2) + ".."
+    shown = printable(text[: widest + 1])
+    return shown if width_of(shown) <= widest else cut(shown, widest - 2) + ".."
 
 
 # ---- numbers that are typed
@@ -72,10 +75,23 @@ def number_in(text: str, called: str) -> int:
     return int(digits.lstrip("0")[:100] or "0")  # one of more digits is too high in any case
 
 
-def numbers_in(text: str, called: str) -> List[int]:
-    """The numbers in a text, with commas or blanks between them."""
+def pairs_in(text: str, where: str = "") -> Tuple[List[int], List[int]]:
+    """The row numbers in a text, with commas or blanks between them, and the copy number behind each of them: 12.3 is
+    copy 3 of row 12, and 12 is its copy 0. `where` says in an error where they stand, such as " of --find"."""
     words = re.split(r"\s*,\s*|\s+", text.strip()) if text.strip() else []
-    return [number_in(word, called) for word in words]
+    pairs = [pair_in(word, where) for word in words]
+    return [row for row, _ in pairs], [copy for _, copy in pairs]
+
+
+def pair_in(word: str, where: str) -> Tuple[int, int]:
+    """A row number and the copy number behind it."""
+    row, point, copy = word.partition(POINT)
+    return number_in(row, "a row number" + where), number_in(copy, "a copy number" + where) if point else 0
+
+
+def pair_text(row: int, copy: int) -> str:
+    """A row number and a copy number, as they are shown and typed."""
+    return "%d%s%d" % (row, POINT, copy)
 
 
 # ---- columns
@@ -104,15 +120,16 @@ def text_of(shown: object) -> str:
 
 
 class Layout:
-    """The columns of a page: the number of a result, its values and, if they are wanted, its row numbers. They are as
-    wide as what the tables hold, so that they stand at the same places on every page."""
+    """The columns of a page: the number of a result, its values and, if they are wanted, its row numbers, with copy
+    numbers where rows have copies. They are as wide as what the tables hold, so that they stand at the same places on
+    every page."""
 
     def __init__(self, tables: Tables, file: File, names: Names) -> None:
         self.names, self.attributes = names, plans.width(file.tables)
         self.number = column("n", [str(max(tables.size.results - 1, 0))])
         self.values = [self.column_of(attribute, file) for attribute in self.attributes]
-        rows = [column(names.table(t), [str(max(table.rows - 1, 0))]) for t, table in enumerate(file.tables)]
-        self.rows = [Column(BAR, 1, True), *rows]
+        self.counted = [table.counted for table in file.tables]
+        self.rows = [Column(BAR, 1, True), *(self.column_of_rows(t, file) for t in range(len(file.tables)))]
 
     def column_of(self, attribute: int, file: File) -> Column:
         """The column of an attribute. The first table that has it holds all that results can have in it."""
@@ -120,6 +137,14 @@ class Layout:
         values = file.values(table, list(table.attributes).index(attribute))
         texts = set(map(text_of, shown_values(values, attribute, self.names)))
         return column(self.names.attribute(attribute), list(texts), attribute not in self.names.texts)
+
+    def column_of_rows(self, number: int, file: File) -> Column:
+        """The column of a table's row numbers, and of the copy numbers behind them if its rows have copies."""
+        table, name = file.tables[number], self.names.table(number)
+        if not table.counted:
+            return column(name, [str(max(table.rows - 1, 0))])
+        texts = [pair_text(row, copies - 1) for row, copies in enumerate(file.copies(table))]
+        return column(in_column(name, WIDEST - len(COPY_TITLE)) + COPY_TITLE, texts)
 
     def header(self, with_rows: bool) -> List[str]:
         """The titles, each as it stands in its column."""
@@ -133,9 +158,14 @@ class Layout:
             shown = shown_values([result.values[place]], attribute, self.names)[0]
             cells.append(self.values[place].cell(text_of(shown)))
         if with_rows:
-            texts = [BAR, *map(str, result.rows)]
+            texts = [BAR, *self.row_texts(result)]
             cells += [column.cell(text) for column, text in zip(self.rows, texts)]
         return cells
+
+    def row_texts(self, result: ResultRow) -> List[str]:
+        """The row number of a result in each table, with the copy number where rows have copies."""
+        pairs = zip(result.rows, result.copies, self.counted)
+        return [pair_text(row, copy) if counted else str(row) for row, copy, counted in pairs]
 
 
 def line_of(cells: Sequence[str], left_out: int = 0) -> str:
@@ -302,7 +332,7 @@ class View:
 
     def help(self) -> None:
         """Tells what the keys do."""
-        self.message = HELP
+        self.message = HELP + (HELP_OF_COPIES if any(self.layout.counted) else "")
 
     # ---- questions
     def ask_number(self, typed: str = "") -> None:
@@ -336,4 +366,4 @@ class View:
 
     def rows_given(self, typed: str) -> int:
         """The number of the result with the rows that were typed; Refused if there is none."""
-        return self.tables.number_of(numbers_in(typed, "a row number"))
+        return self.tables.number_of(*pairs_in(typed))

@@ -5,9 +5,8 @@ use mathlib.Core.List.{List, [], _∷_}
 use Prim.Native.Nat.{ℕ, zero, suc, _+_, _-_, _*_, _≤_, _<_}
 use native.Mathlib.Omega.{arith}
 use lib.ListN.{length, getD, take, drop}
-use lib.Dec.{eqb}
 use borrow.Author.Tests.{eq-eqb, ne-eqb}
-use Rattle.semantics.specs.Files.{Table, wordAt, columnBytes, copyBytes, copyStart, copiesAt}
+use Rattle.semantics.specs.Files.{Table, wordAt, copyBytes, copyStart, copiesAt}
 use Rattle.semantics.specs.Shapes.{noTable}
 use Rattle.theory.specs.Elements.{Each}
 use Rattle.theory.specs.Rules.{Fitting, Counted}

@@ -10,7 +10,6 @@ use lib.Dec.{ltb}
 use borrow.Author.Tests.{lt-ltb, le-ltb, ltb-true, ltb-false}
 use Rattle.semantics.specs.Lists.{any, from, upTo}
 use Rattle.semantics.specs.Files.{wordAt, copyBytes, copyStart, copiesFit, copiesOut}
-use Rattle.theory.proofs.Cases.{cases, not-true, not-false}
 use Rattle.words.proofs.Parts.{rest}
 use Rattle.tables.specs.declared.End.the-variants as end
 use Rattle.tables.specs.declared.Record.the-variants as kind

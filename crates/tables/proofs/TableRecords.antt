@@ -1,5 +1,5 @@
 -- The table record at an offset of a file, by how many bytes are left there and by its mask, its row count and its copies.
-use mathlib.Core.Path.{_≡_, refl, sym, ap, _∙_}
+use mathlib.Core.Path.{_≡_, sym, ap, _∙_}
 use mathlib.Core.Bool.{Bool, true, false}
 use mathlib.Core.List.{List}
 use Prim.Native.Nat.{ℕ, _+_, _*_, _-_, _≤_, _<_}
@@ -15,7 +15,7 @@ use Rattle.tables.specs.declared.Record.the-variants as kind
 use Rattle.tables.specs.Copies.{countsOf}
 use Rattle.tables.specs.Records.{countedRecord}
 use Rattle.tables.specs.Catalogs.{tableOf}
-use Rattle.words.proofs.Parts.{word-drop}
+use Rattle.theory.proofs.OutOfRange.{word-drop}
 
 -- ---- over the bytes left, the mask, the row count and the copies
 module _ (f : Bool) (g : ℕ → ℕ) (o left m n : ℕ) where

@@ -1,6 +1,6 @@
 -- Request U9: the copies of the rows of a table that was read are 1 to 65,535.
 use mathlib.Core.Path.{_≡_, refl, sym, ap, _∙_}
-use mathlib.Core.Bool.{Bool, true, false, not, _||_}
+use mathlib.Core.Bool.{Bool, true, false, not}
 use mathlib.Core.List.{List, [], _∷_, _++_}
 use Prim.Native.Nat.{ℕ, zero, suc, _+_, _*_, _≤_, _<_, min}
 use native.Mathlib.Omega.{arith}
@@ -11,11 +11,11 @@ use borrow.Author.Tests.{ltb-true}
 use Rattle.theory.specs.Elements.{Each}
 use Rattle.theory.specs.Rules.{Counted}
 use Rattle.semantics.specs.Lists.{any, from, upTo}
-use Rattle.semantics.specs.Files.{Table, wordAt, copyBytes, copyStart, mostCopies, copiesFit, copiesAt, copiesOut, whole, nextMark, nextTable, readFrom, read}
+use Rattle.semantics.specs.Files.{Table, wordAt, copyStart, mostCopies, copiesFit, copiesAt, copiesOut, whole, nextMark, nextTable, readFrom, read}
 use Rattle.theory.proofs.Cases.{cases, and-left, and-right, not-false, or-false-left, or-false-right}
 use Rattle.theory.proofs.Lists.{Each-append}
 use Rattle.theory.proofs.Numbers.{from-at}
-use Rattle.theory.proofs.Reading.{mark-cases, record-cases, WholeRecord, whole-is, WholeFields, whole-fields}
+use Rattle.theory.proofs.Reading.{mark-cases, record-cases, WholeRecord, whole-is, whole-fields}
 
 -- ---- whatever the bytes
 -- a row has at most 65,535 copies

@@ -1,10 +1,10 @@
 -- The copies of a file's rows: never more than pairs tell apart, and each row of a file within the rules has one.
-use mathlib.Core.Path.{_≡_, sym}
+use mathlib.Core.Path.{_≡_}
 use mathlib.Core.List.{List, [], _∷_}
-use Prim.Native.Nat.{ℕ, zero, suc, _≤_, _<_}
+use Prim.Native.Nat.{ℕ, zero, suc, _<_}
 use native.Mathlib.Omega.{arith}
 use lib.ListN.{getD}
-use Rattle.semantics.specs.Files.{Table, copiesAt, read}
+use Rattle.semantics.specs.Files.{Table, copiesAt}
 use Rattle.semantics.specs.Plans.{Plan}
 use Rattle.semantics.specs.Shapes.{noTable, shapeOf}
 use Rattle.semantics.specs.Results.{baseOf}

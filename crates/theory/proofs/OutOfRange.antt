@@ -1,20 +1,22 @@
--- Answer 19: at its detail stands the mark of a table with copies, whose columns are there, and a copy count out of range.
-use mathlib.Core.Path.{_≡_, refl, sym, ap, _∙_}
+-- Answer 19: at its detail stands the mark of a table with copies, whose columns are there, and a copy count out of range; and where such
+-- a record is reached, 19 is due.
+use mathlib.Core.Path.{_≡_, refl, sym, ap, ap₂, _∙_}
 use mathlib.Core.Bool.{Bool, true, false, not, _&&_, _||_}
 use mathlib.Core.List.{List, [], _∷_, _++_}
 use Prim.Native.Nat.{ℕ, zero, suc, _+_, _-_, _*_, _≤_, _<_}
 use native.Mathlib.Omega.{arith}
-use native.Mathlib.Nat.{add-zero}
+use native.Mathlib.Nat.{add-zero, zero-add, eq-or-lt-of-le}
+use mathlib.Core.Logic.{⊎-elim}
 use lib.ListN.{length, drop, getD, length-drop}
 use lib.Seq.{drop-drop, getD-drop}
 use lib.Dec.{eqb, ltb}
-use borrow.Author.Tests.{eqb-true, ltb-false}
+use borrow.Author.Tests.{eqb-true, ne-eqb, ltb-false, le-ltb}
 use Rattle.semantics.specs.Lists.{any, from, upTo}
-use Rattle.semantics.specs.Files.{Table, wordAt, arity, copiesFit, Mark, cutMark, tableMark, planMark, otherMark, markOf, nextMark, TableRecord, broken, copiesOut, recordBytes, tableRecord, nextTable, Ending, fault, planBytes, planRecord, readFrom, read}
+use Rattle.semantics.specs.Files.{Table, wordAt, arity, copiesFit, Mark, cutMark, tableMark, planMark, otherMark, markOf, nextMark, TableRecord, broken, copiesOut, recordBytes, tableRecord, nextTable, Ending, fault, planRecord, readFrom, read}
 use Rattle.semantics.specs.Shapes.{shapeOf}
 use Rattle.semantics.specs.Elimination.{eliminate, planUnder}
 use Rattle.semantics.specs.Outcome.{refused, admitted, foundVerdict, asksForPlan, planVerdict, rulesVerdict, readVerdict}
-use Rattle.theory.specs.Details.{OutOfRange}
+use Rattle.theory.specs.Details.{OutOfRange, WholeTable, TablesBefore}
 use Rattle.theory.proofs.Cases.{cases, and-left, and-right, not-true, true-false}
 use Rattle.theory.proofs.Reading.{mark-cases, record-cases, ending-cases, whole-is}
 use Rattle.theory.proofs.FoundPlans.{elimination-cases}
@@ -73,7 +75,7 @@ mark-bytes left a b e =
     (λ k. absurd ((other (markOf left a b) e) .2 (rw (c, t, p, k, markOf)))))))
 
 -- ---- at an offset of the file
-word-drop : (s : List ℕ) (a i : ℕ) → wordAt (drop a s) i ≡ wordAt s (a + i)
+pub word-drop : (s : List ℕ) (a i : ℕ) → wordAt (drop a s) i ≡ wordAt s (a + i)
 unfolding wordAt
 word-drop s a i =
     let one : a + (i + 1) ≡ a + i + 1 = omega arith in
@@ -159,3 +161,83 @@ nineteen-tells bytes d v =
     let b : c ≡ d = cc in
     read-tells bytes d (e ∙ ap (λ k. fault k c) a ∙ ap (fault 19) b))
     (λ code e. absurd (plan-never-19 ((read bytes) .tables) code d (rw (e, readVerdict) at v)))
+
+-- ---- and where such a record stands, 19 is due
+row-some : (q : ℕ → Bool) (i n y : ℕ) → i ≤ y → y < i + n → q y ≡ true → any q (from i n) ≡ true
+row-some q i zero y a b e = absurd (omega arith)
+row-some q i (suc n) y a b e =
+    cases (q i) (λ h. rw h) (λ h. rw h (⊎-elim (λ z. absurd (true-false (q i) (ap q z ∙ e) h)) (λ l. row-some q (suc i) n y l (omega arith) e) (eq-or-lt-of-le a)))
+
+-- the reading goes on behind the records
+pub record ReadOn (bytes : List ℕ) (n o : ℕ) : Type 0 where
+  pub before : List Table
+  pub is : (k : ℕ) → readFrom (n + k) 0 bytes [] ≡ readFrom k o (drop o bytes) before
+
+behind-one : (bytes : List ℕ) (k at o : ℕ) (ts : List Table) (W : WholeTable bytes at o) → readFrom (suc k) at (drop at bytes) ts ≡ readFrom k o (drop o bytes) (ts ++ (W .table ∷ []))
+unfolding readFrom
+behind-one bytes k at o ts W = rw (W .mark, W .is, readFrom) (rw (W .end) (ap (λ l. readFrom k (at + W .size) l (ts ++ (W .table ∷ []))) (drop-drop (W .size) at bytes)))
+
+read-on : (bytes : List ℕ) (n o : ℕ) → TablesBefore bytes n o → ReadOn bytes n o
+unfolding TablesBefore
+read-on bytes zero o e = record { before = []; is = λ k. rw e (ap (λ m. readFrom m 0 bytes []) (zero-add k)) }
+read-on bytes (suc n) o b =
+    let (at, t, W) = b in
+    let R = read-on bytes n at t in
+    record {
+      before = R .before ++ (W .table ∷ []);
+      is = λ k. let e : suc n + k ≡ n + suc k = omega arith in ap (λ m. readFrom m 0 bytes []) e ∙ R .is (suc k) ∙ behind-one bytes k at o (R .before) W;
+    }
+
+counted-mark : (left a b : ℕ) → 2 ≤ left → a ≡ 0x54 → b ≡ 0x43 → markOf left a b ≡ tableMark true
+unfolding markOf
+counted-mark left a b h p q = ap₂ (markOf left) p q ∙ rw (le-ltb left 2 h, markOf)
+
+due-record : (copies : ℕ → ℕ) (o left m n y : ℕ) → 10 ≤ left → 1 ≤ arity m → arity m ≤ 8 → n ≤ 4096 → recordBytes true m n ≤ left → y < n → copiesFit (copies y) ≡ false
+    → tableRecord true copies o left m n ≡ broken 19
+unfolding tableRecord copiesOut upTo
+due-record copies o left m n y ten one eight rows there low out =
+    rw (
+      le-ltb left 10 ten,
+      ne-eqb (arity m) 0 (λ z. omega arith),
+      le-ltb 8 (arity m) eight,
+      le-ltb 4096 n rows,
+      le-ltb left (recordBytes true m n) there,
+      row-some (λ y. not (copiesFit (copies y))) 0 n y (omega arith) (omega arith) (ap not out),
+      tableRecord,
+    )
+
+-- after fewer than 16 tables, and with 1 to 8 attributes and at most 4,096 rows, so that none of 1 to 5 is due before it
+module _ (bytes : List ℕ) (n d : ℕ) (few : n < 16) (T : TablesBefore bytes n d) (O : OutOfRange bytes d)
+    (one : 1 ≤ arity (wordAt bytes (d + 2))) (eight : arity (wordAt bytes (d + 2)) ≤ 8) (rows : wordAt bytes (d + 6) ≤ 4096) where
+  abbrev rest : List ℕ
+  rest = drop d bytes
+
+  left : recordBytes true (wordAt rest 2) (wordAt rest 6) ≤ length rest
+  left = rw (word-drop bytes d 2, word-drop bytes d 6) (omega (arith, O .there, length-drop d bytes))
+
+  ten : 10 ≤ length rest
+  unfolding recordBytes
+  ten = omega (arith, left)
+
+  due-here : nextTable true d rest ≡ broken 19
+  due-here =
+      due-record (λ y. wordAt (drop 10 rest) (4 * y)) d (length rest) (wordAt rest 2) (wordAt rest 6) (O .row) ten
+      (rw (word-drop bytes d 2) one) (rw (word-drop bytes d 2) eight) (rw (word-drop bytes d 6) rows) left (rw (word-drop bytes d 6) (O .low))
+      (ap (λ k. copiesFit (wordAt k (4 * O .row))) (drop-drop 10 d bytes) ∙ O .out)
+
+  due-ending : (k : ℕ) (ts : List Table) → (readFrom (suc k) d rest ts) .ending ≡ fault 19 d
+  unfolding readFrom
+  due-ending k ts =
+      let m : nextMark rest ≡ tableMark true = counted-mark (length rest) (getD rest 0 0) (getD rest 1 0) (omega (arith, ten)) (getD-drop d bytes 0 0 ∙ ap (λ k. getD bytes k 0) (add-zero d) ∙ O .first) (getD-drop d bytes 1 0 ∙ O .second) in
+      rw (m, due-here, readFrom)
+
+  read-due : (read bytes) .ending ≡ fault 19 d
+  unfolding read
+  read-due =
+      let R = read-on bytes n d T in
+      let e : 16 ≡ n + suc (15 - n) = omega arith in
+      ap (λ k. (readFrom k 0 bytes []) .ending) e ∙ ap (λ r. r .ending) (R .is (suc (15 - n))) ∙ due-ending (15 - n) (R .before)
+
+  pub nineteen-due : rulesVerdict bytes ≡ refused 19 d
+  unfolding rulesVerdict readVerdict
+  nineteen-due = rw (read-due, readVerdict)

@@ -12,7 +12,7 @@ use lib.Dec.{eqb, ltb, leb}
 use borrow.Author.Tests.{le-ltb, lt-leb}
 use Rattle.theory.specs.Elements.{Each}
 use Rattle.semantics.specs.Lists.{upTo, from}
-use Rattle.semantics.specs.Files.{Table, arity, columnBytes, wordAt, copyBytes, copiesFit, nextMark, whole, copiesOut, recordBytes, tableRecord, nextTable, Reading, readFrom, read}
+use Rattle.semantics.specs.Files.{Table, arity, columnBytes, wordAt, copyBytes, copiesFit, nextMark, copiesOut, recordBytes, tableRecord, nextTable, Reading, readFrom, read}
 use Rattle.theory.specs.AlikeFiles.{inColumn, SameOutsideColumns}
 use Rattle.semantics.specs.Plans.{Plan}
 use Rattle.semantics.specs.Shapes.{width, outputFits}

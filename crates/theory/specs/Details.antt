@@ -5,12 +5,12 @@ use mathlib.Core.Path.{_≡_}
 use mathlib.Core.Bool.{Bool, true, false, _&&_, _||_, not}
 use mathlib.Core.List.{List, [], _∷_, _++_}
 use mathlib.Core.Logic.{_⊎_}
-use Prim.Native.Nat.{ℕ, suc, _+_, _*_, _≤_, _<_}
+use Prim.Native.Nat.{ℕ, zero, suc, _+_, _*_, _≤_, _<_}
 use lib.ListN.{length, take, drop, getD}
 use lib.Dec.{eqb, ltb}
 use Rattle.theory.specs.Elements.{Each, member}
 use Rattle.semantics.specs.Lists.{any, filter, upTo}
-use Rattle.semantics.specs.Files.{Table, wordAt, copiesFit, recordBytes, planBytes, read}
+use Rattle.semantics.specs.Files.{Table, wordAt, copiesFit, recordBytes, tableMark, nextMark, whole, nextTable, planBytes, read}
 use Rattle.semantics.specs.Plans.{Plan, join, encode, tables}
 use Rattle.theory.specs.Rules.{Small, NamedOnce, WellBehaved}
 use Rattle.semantics.specs.Shapes.{Shape, joinAttributes, shapeOf}
@@ -153,3 +153,17 @@ pub record OutOfRange (bytes : List ℕ) (d : ℕ) : Type 0 where
   pub row : ℕ
   pub low : row < wordAt bytes (d + 6)
   pub out : copiesFit (wordAt (drop (d + 10) bytes) (4 * row)) ≡ false
+
+-- between two offsets stands a whole table record
+pub record WholeTable (bytes : List ℕ) (from to : ℕ) : Type 0 where
+  pub counted : Bool
+  pub mark : nextMark (drop from bytes) ≡ tableMark counted
+  pub table : Table
+  pub size : ℕ
+  pub is : nextTable counted from (drop from bytes) ≡ whole table size
+  pub end : to ≡ from + size
+
+-- before an offset stand n whole table records, and nothing else
+unfoldable pub TablesBefore : List ℕ → ℕ → ℕ → Type 0
+TablesBefore bytes zero o = o ≡ 0
+TablesBefore bytes (suc n) o = (at : ℕ) × TablesBefore bytes n at × WholeTable bytes at o

@@ -1,4 +1,3 @@
-use native.Mathlib.Omega.{arith}
 use Rattle.tables.proofs.CountedTables.{counted-in, counted-out}
 use borrow.Author.Needs.{needs}
 use Rattle.tables.proofs.counted_table.Statement.{statement}
