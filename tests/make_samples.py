@@ -18,6 +18,7 @@ writes, from the top of the repository (standard library of Python only):
 To add a sample, add a line to a function below and run this again.
 """
 import itertools
+import math
 import os
 import random
 
@@ -903,6 +904,12 @@ def result_samples():
 
 
 # ---- copies
+def copies_of(number):
+    """A table of one attribute that is 5 in all rows, which have so many copies together."""
+    full, rest = divmod(number, 65535)
+    return counted((0,), *[(65535, 5)] * full, *[(rest, 5)] * (rest > 0))
+
+
 def counted_samples():
     frames = counted((0, 1), (1, 10, 1), (3, 11, 2), (2, 12, 2), (9, 13, 4))
     exposures = counted((1, 2), (2, 1, 7), (5, 2, 8), (1, 2, 9), (4, 3, 7))
@@ -932,6 +939,12 @@ def counted_samples():
     sample("counted_65535_copies", file([most], 0))
     sample("counted_65535_copies_four_times", file([most] * 4, *left_deep(4)))
     sample("counted_65535_copies_five_times", file([most] * 5, *left_deep(5)))
+    # totals at the edge of a word and of the holding limit, each a product of sums of copies
+    sample("counted_4294967295_results", file([copies_of(65535), copies_of(65537)], FF, 0, 1))
+    sample("counted_4294967296_results", file([copies_of(65536), copies_of(65536)], FF, 0, 1))
+    for last, sums in ((14, (7154, 42799, 92737, 649657)), (15, (65535, 65537, 641, 6700417)), (16, (65536,) * 4)):
+        assert math.prod(sums) == 2**64 - 16 + last
+        sample("counted_184467440737095516%02d_results" % last, file(map(copies_of, sums), *left_deep(4)), 1200)
     thousand = counted((0,), (1024, 5))
     sample("counted_1048576_choices", file([thousand, counted((0,), (1000, 5), (24, 6))], FF, 0, 1))
     sample("counted_1048577_choices", file([counted((0,), (61681, 5)), counted((0,), (17, 5))], FF, 0, 1))

@@ -1209,6 +1209,8 @@ class Opening(Folder):
                     told.append([len(function(data)), function(data).plan_bytes])
                 except pigrozd.Refused as refused:
                     told.append(str(refused))
+                    if function is pigrozd.join_file and refused.number == 11 and refused.detail < HOLD:
+                        told[0] = [refused.detail, pigrozd.open_file(data).plan_bytes]  # too many to write out alone
             self.assertEqual(*told)
 
     def test_too_many_results(self):

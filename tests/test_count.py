@@ -185,6 +185,9 @@ class Counting(Folder):
             try:
                 self.assertEqual(pigrozd.count_file(data).results, len(pigrozd.join_file(data)))
             except pigrozd.Refused as refused:
+                if refused.number == 11:  # of the join alone: what it cannot write out can be counted
+                    self.assertEqual(pigrozd.count_file(data).results, refused.detail)
+                    continue
                 self.assertEqual(str(refused), self.refused(refused.number, refused.detail, pigrozd.join_file, data))
 
     def test_what_is_no_table(self):

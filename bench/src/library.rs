@@ -39,11 +39,12 @@ pub struct ResultAnswer {
     pub number: u64,
     pub detail: u64,
     pub rows: [u32; 16],
+    pub copies: [u32; 16],
 }
 
 impl ResultAnswer {
     pub fn refused(number: u64, detail: u64) -> ResultAnswer {
-        ResultAnswer { number, detail, rows: [0; 16] }
+        ResultAnswer { number, detail, rows: [0; 16], copies: [0; 16] }
     }
 }
 
@@ -91,6 +92,8 @@ extern "C" {
         scratch_len: usize,
         rows: *const u32,
         rows_len: usize,
+        copies: *const u32,
+        copies_len: usize,
     ) -> NumberAnswer;
 }
 
@@ -110,6 +113,19 @@ pub fn result_at(file: &[u8], scratch: &mut [u32], n: u64, row: &mut [u32]) -> R
 }
 
 pub fn number_of(file: &[u8], scratch: &mut [u32], rows: &[u32]) -> NumberAnswer {
-    // The three parts do not overlap, and the library keeps within them.
-    unsafe { pigrozd_number_of(file.as_ptr(), file.len(), scratch.as_mut_ptr(), scratch.len(), rows.as_ptr(), rows.len()) }
+    // No file of the bench that is numbered has copies: of each row its one copy is meant.
+    let copies = &[0; 17][..rows.len()];
+    // The four parts do not overlap, and the library keeps within them.
+    unsafe {
+        pigrozd_number_of(
+            file.as_ptr(),
+            file.len(),
+            scratch.as_mut_ptr(),
+            scratch.len(),
+            rows.as_ptr(),
+            rows.len(),
+            copies.as_ptr(),
+            copies.len(),
+        )
+    }
 }
