@@ -18,11 +18,11 @@ use Rattle.words.proofs.Arrays.{padded-length, padded-each}
 use Rattle.storage.specs.Layout.{storageSize, storage}
 use Rattle.storage.proofs.Sizes.{storage-le, storage-need}
 use Rattle.tables.specs.declared.Catalog.{Catalog}
-use Rattle.tables.specs.Catalogs.{catalogOf, columnsOf}
-use Rattle.tables.specs.Copies.{countsOf, CopiesOf}
+use Rattle.tables.specs.Catalogs.{catalogOf, columnsOf, countsAt, CopiesAhead}
+use Rattle.tables.specs.Copies.{CopiesOf}
 use Rattle.tables.specs.PlanTables.{PlanTables}
 use Rattle.theory.proofs.Mendable.{small-each}
-use Rattle.tables.proofs.Catalogs.{mask-at, rows-at, start-at, counts-at}
+use Rattle.tables.proofs.Catalogs.{mask-at, rows-at, start-at, counts-at, ahead-at}
 use Rattle.tables.proofs.CopyColumns.{copies-each}
 use Rattle.plans.specs.declared.admission.Verdict.the-variants as decision
 use Rattle.scheduling.specs.Schedules.{Schedule, rowCounts, turnsIn, placementsIn, scheduleWith, scheduleOf}
@@ -57,7 +57,7 @@ field-length f xs h = padded-length (map f xs) (omega (arith, length-map xs f))
 
 sized-of : (ts : List Table) → length ts ≤ 16 → Sized (catalogOf ts)
 unfolding catalogOf
-sized-of ts few = record { masks = field-length (λ t. t .mask) ts few; rows = field-length (λ t. t .rows) ts few; starts = field-length (λ t. t .start) ts few; counts = field-length countsOf ts few }
+sized-of ts few = record { masks = field-length (λ t. t .mask) ts few; rows = field-length (λ t. t .rows) ts few; starts = field-length (λ t. t .start) ts few }
 
 -- ---- all of it
 module _ (bytes : List ℕ) (words : ℕ) (ts : List Table) (p : Plan) (v : verdict bytes words ≡ admitted ts p) where
@@ -105,8 +105,11 @@ module _ (bytes : List ℕ) (words : ℕ) (ts : List Table) (p : Plan) (v : verd
   table-at : (t : ℕ) → tableWith (getD masks t 0) (getD rows t 0) (getD (padded (map (λ t. t .start) ts)) t 0) ≡ columnsOf (getD ts t noTable)
   table-at t = rw (mask-at ts t, rows-at ts t, start-at ts t)
 
-  copies-at : (t : ℕ) → CopiesOf bytes (getD (padded (map countsOf ts)) t 0) (getD ts t noTable)
+  copies-at : (t : ℕ) → CopiesOf bytes (countsAt (catalogOf ts) t) (getD ts t noTable)
   copies-at t = rw (counts-at ts t) (copies-each ts (rw tables-are (tables-fit bytes)) (rw tables-are (tables-counted bytes)) t)
+
+  copies-ahead : (t : ℕ) → CopiesAhead (catalogOf ts) t
+  copies-ahead t = ahead-at (length bytes) ts (rw tables-are (tables-fit bytes)) t
 
   prepared-of : Prepared bytes words (catalogOf ts) (scheduleOf masks (rowCounts rows) p) ts p
   unfolding catalogOf scheduleOf scheduleWith shapeOf
@@ -120,6 +123,7 @@ module _ (bytes : List ℕ) (words : ℕ) (ts : List Table) (p : Plan) (v : verd
         rows = rows-of;
         table = table-at;
         copies = copies-at;
+        ahead = copies-ahead;
         count = turns-length p 0;
         turns = refl;
         top = top-placed p (padded (turnsIn p 0)) (length (turnsIn p 0)) refl (turns-length p 0);

@@ -12,7 +12,7 @@ use Rattle.words.specs.Arrays.{padded}
 use Rattle.storage.specs.Layout.{storageSize, storage}
 use Rattle.storage.specs.Positions.{topAt, WordsAt}
 use Rattle.tables.specs.declared.Catalog.{Catalog}
-use Rattle.tables.specs.Catalogs.{tableAt, columnsOf}
+use Rattle.tables.specs.Catalogs.{tableAt, columnsOf, countsAt, CopiesAhead}
 use Rattle.tables.specs.Copies.{CopiesOf}
 use Rattle.scheduling.specs.Schedules.{Schedule, rowCounts, turnsIn, topIn}
 use Rattle.scheduling.specs.ByPosition.{JoinsPlaced}
@@ -22,7 +22,6 @@ pub record Sized (c : Catalog) : Type 0 where
   pub masks : length (c .masks) ≡ 16
   pub rows : length (c .rows) ≡ 16
   pub starts : length (c .starts) ≡ 16
-  pub counts : length (c .counts) ≡ 16
 
 pub record Prepared (bytes : List ℕ) (words : ℕ) (c : Catalog) (s : Schedule) (ts : List Table) (p : Plan) : Type 0 where
   pub within : WithinRules ts p
@@ -33,7 +32,8 @@ pub record Prepared (bytes : List ℕ) (words : ℕ) (c : Catalog) (s : Schedule
   pub masks : (t a : ℕ) → (shapeOf ts) .has t a ≡ hasBit (getD (c .masks) t 0) a
   pub rows : (t : ℕ) → getD (c .rows) t 0 ≡ (shapeOf ts) .rows t
   pub table : (t : ℕ) → tableAt c t ≡ columnsOf (getD ts t noTable)
-  pub copies : (t : ℕ) → CopiesOf bytes (getD (c .counts) t 0) (getD ts t noTable)
+  pub copies : (t : ℕ) → CopiesOf bytes (countsAt c t) (getD ts t noTable)
+  pub ahead : (t : ℕ) → CopiesAhead c t
   -- the schedule: its joins in post-order, its tables in plan order, and each join by its position
   pub count : s .joins ≡ joins p
   pub turns : s .turns ≡ padded (turnsIn p 0)

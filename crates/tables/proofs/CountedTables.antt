@@ -9,11 +9,10 @@ use lib.Seq.{drop-drop}
 use lib.Dec.{ltb}
 use borrow.Author.Tests.{lt-ltb, le-ltb, ltb-true, ltb-false}
 use Rattle.semantics.specs.Lists.{any, from, upTo}
-use Rattle.semantics.specs.Files.{wordAt, copyBytes, copyStart, copiesFit, copiesOut}
+use Rattle.semantics.specs.Files.{wordAt, copyBytes, copiesFit, copiesOut}
 use Rattle.words.proofs.Parts.{rest}
 use Rattle.tables.specs.declared.End.the-variants as end
 use Rattle.tables.specs.declared.Record.the-variants as kind
-use Rattle.tables.specs.Copies.{countsOf}
 use Rattle.tables.specs.Records.{countedRecord}
 use Rattle.tables.specs.Catalogs.{tableOf}
 
@@ -68,12 +67,9 @@ module _ (file : List ℕ) (at m n size : ℕ) (b : Bool) (fit : b ≡ not (copi
       twice true = refl
       twice false = refl
 
-  pub counted-in : b ≡ true → kind.Table m n (at + 10 + 4 * n) (at + 10) size ≡ tableOf at (countedRecord at (drop at file) m n size)
-  unfolding countedRecord countsOf copyStart copyBytes
-  counted-in e = rw (out-is ∙ ap not e, countedRecord) (ap (λ k. kind.Table m n (at + 10 + 4 * n) k size) first)
-    where
-      first : at + 10 ≡ at + 10 + 4 * n - 4 * n
-      first = omega arith
+  pub counted-in : b ≡ true → kind.Table m n (at + 10 + 4 * n) 1 size ≡ tableOf at (countedRecord at (drop at file) m n size)
+  unfolding countedRecord copyBytes
+  counted-in e = rw (out-is ∙ ap not e, countedRecord)
 
   pub counted-out : b ≡ false → kind.Last (end.Fault 19 at) ≡ tableOf at (countedRecord at (drop at file) m n size)
   unfolding countedRecord

@@ -4,6 +4,7 @@ pub mod CountedTables
 pub mod CopyColumns
 pub mod Records
 pub mod Steps
+pub mod CountedBits
 pub mod Catalogs
 pub mod ReadTo
 pub mod Columns

@@ -7,14 +7,14 @@ use lib.ListN.{length, drop}
 use Rattle.semantics.specs.Files.{Table, nextMark, nextTable, Ending, fault, planRecord, readFrom}
 use Rattle.theory.proofs.Reading.{mark-cases, record-cases, WholeRecord, whole-is}
 use Rattle.tables.specs.declared.Record.the-variants as kind
-use Rattle.tables.specs.Copies.{countsOf}
+use Rattle.theory.specs.Elements.{oneIf}
 use Rattle.tables.specs.Catalogs.{endOf, tableOf, recordOf}
 use Rattle.tables.proofs.Records.{limited-full, limited-rules, of-cut, of-table, of-plan, of-other}
 
 -- the record at offset o of a file of that many bytes, where the bytes l stand, the tables ts came before and k more may come
 pub data Step (k size o : ℕ) (l : List ℕ) (ts : List Table) : Type 0 where
   ends : (e : Ending) → recordOf (length ts) size o l ≡ kind.Last (endOf size e) → readFrom k o l ts ≡ record { tables = ts; ending = e } → Step k size o l ts
-  goes-on : (t : Table) (s j : ℕ) → k ≡ suc j → WholeRecord o (length l) t s → recordOf (length ts) size o l ≡ kind.Table (t .mask) (t .rows) (t .start) (countsOf t) s → readFrom k o l ts ≡ readFrom j (o + s) (drop s l) (ts ++ (t ∷ [])) → Step k size o l ts
+  goes-on : (t : Table) (s j : ℕ) → k ≡ suc j → WholeRecord o (length l) t s → recordOf (length ts) size o l ≡ kind.Table (t .mask) (t .rows) (t .start) (oneIf (t .counted)) s → readFrom k o l ts ≡ readFrom j (o + s) (drop s l) (ts ++ (t ∷ [])) → Step k size o l ts
 
 pub step : (k size o : ℕ) (l : List ℕ) (ts : List Table) → k + length ts ≡ 16 → Step k size o l ts
 unfolding readFrom

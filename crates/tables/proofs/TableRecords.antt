@@ -12,7 +12,6 @@ use Rattle.semantics.specs.Files.{tableWith, wordAt, arity, columnBytes, copyBy
 use Rattle.tables.specs.declared.End.the-variants as end
 use Rattle.tables.specs.declared.Record.{Record}
 use Rattle.tables.specs.declared.Record.the-variants as kind
-use Rattle.tables.specs.Copies.{countsOf}
 use Rattle.tables.specs.Records.{countedRecord}
 use Rattle.tables.specs.Catalogs.{tableOf}
 use Rattle.theory.proofs.OutOfRange.{word-drop}
@@ -107,7 +106,6 @@ module _ (file : List ℕ) (at : ℕ) (f : Bool) where
 
         module _ (enough : 10 + b + 4 * (k * n) ≤ length file - at) where
           pub table-plain : f ≡ false → Is (kind.Table m n (at + 10) 0 (10 + b + 4 * (k * n)))
-          unfolding countsOf
           table-plain plain-mark =
               ap (kind.Table m n (at + 10) 0) (size ∙ ap (λ f. recordBytes f m n) plain-mark)
               ∙ sym (ap (tableOf at) (fields ∙ ap (λ f. tableRecord f copiesThere at (length file - at) m n) plain-mark ∙ plain copiesThere at (length file - at) m n there low high short-enough (rw (size, plain-mark) at enough)))

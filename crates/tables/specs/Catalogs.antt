@@ -10,7 +10,8 @@ use Rattle.semantics.specs.Files.{Table, tableWith, hasBit, cutMark, tableMark,
 use Rattle.semantics.specs.Files.{nextTable, Ending, fault, planBytes, planRecord, read}
 use Rattle.semantics.specs.Shapes.{width}
 use Rattle.words.specs.Arrays.{padded}
-use Rattle.tables.specs.Copies.{countsOf}
+use Rattle.theory.specs.Elements.{oneIf}
+use Rattle.tables.specs.Copies.{countedBits, copiesStart, CopiesBefore}
 use Rattle.tables.specs.declared.Catalog.{Catalog}
 use Rattle.tables.specs.declared.Contents.{Contents}
 use Rattle.tables.specs.declared.End.{End}
@@ -25,7 +26,7 @@ catalogOf ts =
       masks = padded (map (λ t. t .mask) ts);
       rows = padded (map (λ t. t .rows) ts);
       starts = padded (map (λ t. t .start) ts);
-      counts = padded (map countsOf ts);
+      counted = countedBits ts;
     }
 
 -- the plan's bytes are the last ones of a file of that many bytes
@@ -35,7 +36,7 @@ endOf size (planBytes code) = end.Plan (size - length code)
 
 abbrev pub tableOf : ℕ → TableRecord → Record
 tableOf o (broken n) = kind.Last (end.Fault n o)
-tableOf o (whole t size) = kind.Table (t .mask) (t .rows) (t .start) (countsOf t) size
+tableOf o (whole t size) = kind.Table (t .mask) (t .rows) (t .start) (oneIf (t .counted)) size
 
 -- the table record at offset o, where the bytes l stand and n tables came before: 5, then the record's own rules
 unfoldable pub limitedTable : ℕ → Bool → ℕ → List ℕ → Record
@@ -61,6 +62,14 @@ columnsOf t = tableWith (t .mask) (t .rows) (t .start)
 -- the attribute columns that the catalog's arrays give for the number of a table
 abbrev pub tableAt : Catalog → ℕ → Table
 tableAt c t = tableWith (getD (c .masks) t 0) (getD (c .rows) t 0) (getD (c .starts) t 0)
+
+-- the offset of the column of copies that the catalog gives for the number of a table, 0 where there is none
+abbrev pub countsAt : Catalog → ℕ → ℕ
+countsAt c t = copiesStart (c .counted) t (getD (c .starts) t 0) (getD (c .rows) t 0)
+
+-- that column stands before the table's attribute columns
+abbrev pub CopiesAhead : Catalog → ℕ → Type 0
+CopiesAhead c t = CopiesBefore (c .counted) t (getD (c .starts) t 0) (getD (c .rows) t 0)
 
 -- w of a file: the number of attributes in all of its tables together
 abbrev pub fileWidth : List ℕ → ℕ

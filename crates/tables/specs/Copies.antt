@@ -1,12 +1,26 @@
--- The copies of a table's rows, by the offset that the catalog holds for the table.
+-- The copies of a table's rows, by the offset of its column of copies; and the set of tables that have such a column.
 use mathlib.Core.Path.{_≡_}
 use mathlib.Core.Bool.{true, false}
-use mathlib.Core.List.{List}
-use Prim.Native.Nat.{ℕ, _+_, _*_, _<_, _≤_}
+use mathlib.Core.List.{List, [], _∷_}
+use Prim.Native.Nat.{ℕ, _+_, _-_, _*_, _<_, _≤_}
 use lib.ListN.{length}
 use lib.Dec.{eqb}
-use Rattle.semantics.specs.Files.{Table, copyStart, copiesAt}
+use Rattle.semantics.specs.Files.{Table, hasBit, copyStart, copiesAt}
+use Rattle.theory.specs.Elements.{oneIf}
 use Rattle.tables.specs.Cells.{cellAt}
+
+-- the tables that have a column of copies, as a set of bits: bit t is that of table t
+abbrev pub countedBits : List Table → ℕ
+countedBits [] = 0
+countedBits (t ∷ ts) = oneIf (t .counted) + 2 * countedBits ts
+
+-- the offset of the column of copies of table t by such a set, where its attribute columns start there; 0 where it has none
+unfoldable pub copiesStart : ℕ → ℕ → ℕ → ℕ → ℕ
+copiesStart counted t start rows = elim (hasBit counted t) [ true ↦ start - 4 * rows | false ↦ 0 ]
+
+-- the column of copies stands before the attribute columns
+abbrev pub CopiesBefore : ℕ → ℕ → ℕ → ℕ → Type 0
+CopiesBefore counted t start rows = hasBit counted t ≡ true → 4 * rows ≤ start
 
 -- the offset of the column of copies, 0 where a table has none
 unfoldable pub countsOf : Table → ℕ

@@ -8,17 +8,17 @@ ghost use Rattle.semantics.specs.Files.{wordAt, tableWith, columnStart, copyByt
 ghost use Rattle.semantics.specs.Shapes.{outputFits};
 ghost use Rattle.theory.specs.Rules.{Fitting};
 ghost use Rattle.tables.specs.Catalogs.{endOf, tableOf, limitedTable, recordOf, contentsOf, fileWidth, AttributesTogether};
-ghost use Rattle.tables.specs.Copies.{copiesIn, CopyInside};
+ghost use Rattle.tables.specs.Copies.{copiesStart, CopiesBefore, copiesIn, CopyInside};
 ghost use Rattle.tables.specs.Records.{countedRecord};
 
-// The tables of a file, in file order: `starts` has the offsets of their first attribute columns, `counts` those of their columns of
-// copies, 0 for a table that has none. The places past the last table are 0.
+// The tables of a file, in file order: `starts` has the offsets of their first attribute columns, and bit t of `counted` says that
+// table t has a column of copies. The places past the last table are 0.
 pub struct Catalog {
     pub count: usize,
     pub masks: [u32; 16],
     pub rows: [usize; 16],
     pub starts: [usize; 16],
-    pub counts: [usize; 16],
+    pub counted: usize,
 }
 
 // How the reading ends: a fault with its number and detail, or the plan, whose bytes run from this offset to the file's end.
@@ -33,14 +33,15 @@ pub struct Contents {
     pub end: End,
 }
 
-// One record: the reading ends there, or it is a table, with what the catalog holds of it and the bytes of its record.
+// One record: the reading ends there, or it is a table, with what the catalog holds of it and the bytes of its record; `counted` is 1
+// for a table with a column of copies, else 0.
 enum Record {
     Last(End),
     Table {
         mask: u32,
         rows: usize,
         start: usize,
-        counts: usize,
+        counted: usize,
         size: usize,
     },
 }
@@ -100,7 +101,7 @@ fn counted_table(file: &[u8], at: usize, mask: u32, rows: usize, size: usize) ->
             mask,
             rows,
             start: first + 4 * rows,
-            counts: first,
+            counted: 1,
             size,
         };
     }
@@ -144,7 +145,7 @@ fn table_record(file: &[u8], at: usize, counted: bool) -> Record
         mask,
         rows,
         start: at + 10,
-        counts: 0,
+        counted: 0,
         size,
     }
 }
@@ -189,7 +190,7 @@ pub fn read(file: &[u8]) -> Contents
         masks: [0u32; 16],
         rows: [0usize; 16],
         starts: [0usize; 16],
-        counts: [0usize; 16],
+        counted: 0,
     };
     let mut at = 0;
     loop {
@@ -203,13 +204,13 @@ pub fn read(file: &[u8]) -> Contents
                 mask,
                 rows,
                 start,
-                counts,
+                counted,
                 size,
             } => {
                 catalog.masks[n] = mask;
                 catalog.rows[n] = rows;
                 catalog.starts[n] = start;
-                catalog.counts[n] = counts;
+                catalog.counted = catalog.counted + (counted << n);
                 catalog.count = n + 1;
                 at += size;
             }
@@ -271,6 +272,17 @@ pub fn value(column: &[u8], row: usize) -> u32
     ensures { λ r. ⌜ r ≡ wordAt (now (column .entry)) (4 * row) ⌝ }
 {
     words::word(column, 4 * row)
+}
+
+// The offset of the column of copies of table t, whose attribute columns start there; 0 where it has none.
+pub fn copies_at(counted: usize, t: usize, start: usize, rows: usize) -> usize
+    requires { ⌜ (t < 16) × CopiesBefore counted t start rows ⌝ }
+    ensures { λ r. ⌜ r ≡ copiesStart counted t start rows ⌝ }
+{
+    if (counted >> t) % 2 == 1 {
+        return start - 4 * rows;
+    }
+    0
 }
 
 // The copies of a row of a table whose column of copies starts at that offset of the file, 0 for a table that has none.

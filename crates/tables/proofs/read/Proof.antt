@@ -49,14 +49,14 @@ mul-catalog-3 c = omega (arith, took c)
 element-write-catalog-3 : tie.Need-element-write-catalog-3 Inv-loop μ-loop
 element-write-catalog-3 c = omega (arith, took c)
 
-mul-catalog-4 : tie.Need-mul-catalog-4 Inv-loop μ-loop
-mul-catalog-4 c = omega (arith, took c)
-
-element-write-catalog-4 : tie.Need-element-write-catalog-4 Inv-loop μ-loop
-element-write-catalog-4 c = omega (arith, took c)
+shl-catalog : tie.Need-shl-catalog Inv-loop μ-loop
+shl-catalog c = omega (arith, took c)
 
 add-catalog : tie.Need-add-catalog Inv-loop μ-loop
-add-catalog c = omega (arith, took c)
+add-catalog c = omega (arith, took c .small)
+
+add-catalog-2 : tie.Need-add-catalog-2 Inv-loop μ-loop
+add-catalog-2 c = omega (arith, took c)
 
 add-at : tie.Need-add-at Inv-loop μ-loop
 add-at c = omega (arith, took c)
@@ -84,9 +84,9 @@ read-spec =
     element-write-catalog-2
     mul-catalog-3
     element-write-catalog-3
-    mul-catalog-4
-    element-write-catalog-4
+    shl-catalog
     add-catalog
+    add-catalog-2
     add-at
     loop-less
     loop-again)
