@@ -139,7 +139,8 @@ fn limit(file: &[u8], values: &[u32], output: &mut [u32]) -> u32 {
 }
 
 /// The twin, the slow engine and the functions for results by number must refuse what the library refuses, with the same answer: every
-/// cut of a file, and every value of every byte. The file is so short that it never has too many choices.
+/// cut of a file, and every value of every byte. The file is so short that it never has too many choices. The twin knows no copies, so
+/// the mark of a table with copies is left out.
 fn check_damaged(sample: &Input) {
     let file = &sample.file;
     let agree = |bytes: &[u8]| {
@@ -155,7 +156,9 @@ fn check_damaged(sample: &Input) {
         for value in 0..=255 {
             let mut bytes = file.to_vec();
             bytes[end] = value;
-            agree(&bytes);
+            if file[end] != b'B' || value != b'C' {
+                agree(&bytes);
+            }
         }
     }
 }
