@@ -1,4 +1,4 @@
-// Whether a file is within the rules and the scratch is long enough: answers 1 to 10 and 14, or the catalog and the schedule that the
+// Whether a file is within the rules and the scratch is long enough: answers 1 to 10, 14 and 19, or the catalog and the schedule that the
 // rest of the join works on. No attribute value is read here.
 ghost use mathlib.Core.Path.{_≡_};
 ghost use mathlib.Core.List.{List};
@@ -162,7 +162,7 @@ fn admit_plan(
     }
 }
 
-// Answers 1 to 10 and 14 for a file that is read.
+// Answers 1 to 10, 14 and 19 for a file that is read.
 fn rule(
     file: &[u8],
     contents: Contents,
@@ -184,7 +184,7 @@ fn rule(
     }
 }
 
-// Answers 1 to 10 and 14 for a file and a scratch of that many words, or the catalog, and the schedule in keys and lists. These are 0
+// Answers 1 to 10, 14 and 19 for a file and a scratch of that many words, or the catalog, and the schedule in keys and lists. These are 0
 // before, and where the file is refused.
 pub fn admit(
     file: &[u8],
