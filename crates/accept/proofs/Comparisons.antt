@@ -15,7 +15,7 @@ use Rattle.capi.specs.Calls.{Calls}
 use Rattle.capi_slow.specs.Calls.{SlowCalls}
 use Rattle.accept.specs.declared.comparing.Comparison.{Comparison}
 use Rattle.accept.specs.declared.comparing.Comparison.TheVariants as comparison
-use Rattle.accept.specs.Comparing.{same_numbers, comparisonOf, Compares}
+use Rattle.accept.specs.Comparing.{same_numbers, comparison_of, Compares}
 use Rattle.accept.proofs.Engines.{same-numbers}
 
 module _ (a : Given) (b : SlowGiven) where
@@ -25,73 +25,73 @@ module _ (a : Given) (b : SlowGiven) where
   other-number h = sym (ap (λ p. p && (eqb a.detail b.detail && eqb a.rows b.rows)) (ne_eqb a.number b.number h))
 
   module _ (n : a.number ≡ b.number) where
-    numbers-equal : same_numbers a b ≡ (eqb a.detail b.detail && eqb a.rows b.rows)
+    numbers_equal : same_numbers a b ≡ (eqb a.detail b.detail && eqb a.rows b.rows)
     unfolding same_numbers
-    numbers-equal = ap (λ p. p && (eqb a.detail b.detail && eqb a.rows b.rows)) (eq-eqb a.number b.number n)
+    numbers_equal = ap (λ p. p && (eqb a.detail b.detail && eqb a.rows b.rows)) (eq-eqb a.number b.number n)
 
     pub other-detail : (a.detail ≡ b.detail → ⊥) → false ≡ same_numbers a b
-    other-detail h = sym (numbers-equal ∙ ap (λ p. p && eqb a.rows b.rows) (ne_eqb a.detail b.detail h))
+    other-detail h = sym (numbers_equal ∙ ap (λ p. p && eqb a.rows b.rows) (ne_eqb a.detail b.detail h))
 
-    pub rows-decide : a.detail ≡ b.detail → eqb a.rows b.rows ≡ same_numbers a b
-    rows-decide d = sym (numbers-equal ∙ ap (λ p. p && eqb a.rows b.rows) (eq-eqb a.detail b.detail d))
+    pub rows_decide : a.detail ≡ b.detail → eqb a.rows b.rows ≡ same_numbers a b
+    rows_decide d = sym (numbers_equal ∙ ap (λ p. p && eqb a.rows b.rows) (eq-eqb a.detail b.detail d))
 
   -- ---- the comparison
   module _ (one other : List ℕ) where
     -- what it is, with the tests for 10 and 15
-    abbrev with-tests : Bool → Bool → Comparison
-    with-tests p q =
+    abbrev with_tests : Bool → Bool → Comparison
+    with_tests p q =
         elim (p || q) [
           | true ↦ comparison.Skipped
           | false ↦ elim (same_numbers a b && same one other) [ true ↦ comparison.Same | false ↦ comparison.Differ ]
         ]
 
-    pub join-says-10 : a.number ≡ 10 → comparison.Skipped ≡ comparisonOf a b one other
-    unfolding comparisonOf
-    join-says-10 e = sym (ap (λ p. with-tests p (eqb b.number 15)) (eq-eqb a.number 10 e))
+    pub join_says_10 : a.number ≡ 10 → comparison.Skipped ≡ comparison_of a b one other
+    unfolding comparison_of
+    join_says_10 e = sym (ap (λ p. with_tests p (eqb b.number 15)) (eq-eqb a.number 10 e))
 
     module _ (not10 : a.number ≡ 10 → ⊥) where
-      pub slow-says-15 : b.number ≡ 15 → comparison.Skipped ≡ comparisonOf a b one other
-      unfolding comparisonOf
-      slow-says-15 e = sym (ap₂ with-tests (ne_eqb a.number 10 not10) (eq-eqb b.number 15 e))
+      pub slow_says_15 : b.number ≡ 15 → comparison.Skipped ≡ comparison_of a b one other
+      unfolding comparison_of
+      slow_says_15 e = sym (ap₂ with_tests (ne_eqb a.number 10 not10) (eq-eqb b.number 15 e))
 
       module _ (not15 : b.number ≡ 15 → ⊥) where
-        neither : comparisonOf a b one other ≡ elim (same_numbers a b && same one other) [ true ↦ comparison.Same | false ↦ comparison.Differ ]
-        unfolding comparisonOf
-        neither = ap₂ with-tests (ne_eqb a.number 10 not10) (ne_eqb b.number 15 not15)
+        neither : comparison_of a b one other ≡ elim (same_numbers a b && same one other) [ true ↦ comparison.Same | false ↦ comparison.Differ ]
+        unfolding comparison_of
+        neither = ap₂ with_tests (ne_eqb a.number 10 not10) (ne_eqb b.number 15 not15)
 
         -- both tests have their results
         abbrev verdict : Bool → Bool → Comparison
         verdict p q = elim (p && q) [ true ↦ comparison.Same | false ↦ comparison.Differ ]
 
-        pub numbers-differ : (p : Bool) → p ≡ same_numbers a b → not p ≡ true → comparison.Differ ≡ comparisonOf a b one other
-        numbers-differ p e h = sym (neither ∙ ap (λ x. verdict x (same one other)) (sym e ∙ not-true p h))
+        pub numbers_differ : (p : Bool) → p ≡ same_numbers a b → not p ≡ true → comparison.Differ ≡ comparison_of a b one other
+        numbers_differ p e h = sym (neither ∙ ap (λ x. verdict x (same one other)) (sym e ∙ not-true p h))
 
         module _ (p q : Bool) (e : p ≡ same_numbers a b) (h : not p ≡ false) (f : q ≡ same one other) where
-          pub words_same : q ≡ true → comparison.Same ≡ comparisonOf a b one other
+          pub words_same : q ≡ true → comparison.Same ≡ comparison_of a b one other
           words_same g = sym (neither ∙ ap₂ verdict (sym e ∙ not-false p h) (sym f ∙ g))
 
-          pub words-differ : q ≡ false → comparison.Differ ≡ comparisonOf a b one other
-          words-differ g = sym (neither ∙ ap₂ verdict (sym e ∙ not-false p h) (sym f ∙ g))
+          pub words_differ : q ≡ false → comparison.Differ ≡ comparison_of a b one other
+          words_differ g = sym (neither ∙ ap₂ verdict (sym e ∙ not-false p h) (sym f ∙ g))
 
-        both-same : same_numbers a b ≡ true → same one other ≡ true → comparisonOf a b one other ≡ comparison.Same
-        both-same e f = neither ∙ ap₂ verdict e f
+        both_same : same_numbers a b ≡ true → same one other ≡ true → comparison_of a b one other ≡ comparison.Same
+        both_same e f = neither ∙ ap₂ verdict e f
 
   -- ---- request U5's theorem: neither 10 nor 15 leaves both the same
   module _ {bytes s o s' one other : List ℕ} (J : Calls bytes s o s' one a) (T : SlowCalls bytes o other b) where
     equal-numbers : (b.number ≡ a.number) × (b.detail ≡ a.detail) × (b.rows ≡ a.rows) × (other ≡ one) → same_numbers a b ≡ true
-    equal-numbers q = sym (rows-decide (sym q.0) (sym q.1)) ∙ eq-eqb a.rows b.rows (sym q.2)
+    equal-numbers q = sym (rows_decide (sym q.0) (sym q.1)) ∙ eq-eqb a.rows b.rows (sym q.2)
 
-    never-differ : comparisonOf a b one other ≡ comparison.Differ → ⊥
-    never-differ d =
+    never_differ : comparison_of a b one other ≡ comparison.Differ → ⊥
+    never_differ d =
         cases (eqb a.number 10)
-        (λ h. let e = join-says-10 one other (eqb-true a.number 10 h) ∙ d in let z : ◌≡◌ {A = ℕ} 0 1 = cc in omega arith)
+        (λ h. let e = join_says_10 one other (eqb-true a.number 10 h) ∙ d in let z : ◌≡◌ {A = ℕ} 0 1 = cc in omega arith)
         (λ h. let not10 = eqb-false a.number 10 h in cases (eqb b.number 15)
-        (λ k. let e = slow-says-15 one other not10 (eqb-true b.number 15 k) ∙ d in let z : ◌≡◌ {A = ℕ} 0 1 = cc in omega arith)
+        (λ k. let e = slow_says_15 one other not10 (eqb-true b.number 15 k) ∙ d in let z : ◌≡◌ {A = ℕ} 0 1 = cc in omega arith)
         (λ k.
         let not15 = eqb-false b.number 15 k in
         let q = same-numbers J T not10 not15 in
-        let e = sym (both-same one other not10 not15 (equal-numbers q) (ap (same one) q.3 ∙ same_refl one)) ∙ d in
+        let e = sym (both_same one other not10 not15 (equal-numbers q) (ap (same one) q.3 ∙ same_refl one)) ∙ d in
         let z : ◌≡◌ {A = ℕ} 0 1 = cc in omega arith))
 
-    pub compared : {c : Comparison} → c ≡ comparisonOf a b one other → Compares bytes s o s' one other (record { joined = a; slow = b; comparison = c })
-    compared e = record { joined = J; slow = T; is = e; agree = λ d. never-differ (sym e ∙ d) }
+    pub compared : {c : Comparison} → c ≡ comparison_of a b one other → Compares bytes s o s' one other (record { joined = a; slow = b; comparison = c })
+    compared e = record { joined = J; slow = T; is = e; agree = λ d. never_differ (sym e ∙ d) }

@@ -14,8 +14,8 @@ unfoldable pub same_numbers : Given → SlowGiven → Bool
 same_numbers a b = eqb a.number b.number && (eqb a.detail b.detail && eqb a.rows b.rows)
 
 -- the comparison of two answers, and of what the outputs hold after them
-unfoldable pub comparisonOf : Given → SlowGiven → List ℕ → List ℕ → Comparison
-comparisonOf a b one other =
+unfoldable pub comparison_of : Given → SlowGiven → List ℕ → List ℕ → Comparison
+comparison_of a b one other =
     elim (eqb a.number 10 || eqb b.number 15) [
       | true ↦ comparison.Skipped
       | false ↦ elim (same_numbers a b && same one other) [ true ↦ comparison.Same | false ↦ comparison.Differ ]
@@ -25,5 +25,5 @@ comparisonOf a b one other =
 pub record Compares (bytes s o s' one other : List ℕ) (r : Compared) : Type 0 where
   pub joined : Calls bytes s o s' one r.joined
   pub slow : SlowCalls bytes o other r.slow
-  pub is : r.comparison ≡ comparisonOf r.joined r.slow one other
+  pub is : r.comparison ≡ comparison_of r.joined r.slow one other
   pub agree : r.comparison ≡ comparison.Differ → ⊥

@@ -1,6 +1,6 @@
 // What both engines say of a file, side by side.
 ghost use Rattle.std.specs.Prelude.{◌≡◌};
-ghost use Rattle.accept.specs.Comparing.{same_numbers, comparisonOf, Compares};
+ghost use Rattle.accept.specs.Comparing.{same_numbers, comparison_of, Compares};
 
 use capi::pigrozd_answer;
 use capi_slow::pigrozd_slow_answer;
@@ -42,7 +42,7 @@ fn comparison_of(
     one: &[u32],
     other: &[u32],
 ) -> Comparison
-    ensures { result ≡ comparisonOf joined slow one.now other.now }
+    ensures { result ≡ comparison_of joined slow one.now other.now }
 {
     let number = joined.number;
     match number {

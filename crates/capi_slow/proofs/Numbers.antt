@@ -5,7 +5,7 @@ use Prim.Native.Nat.{ℕ}
 use Rattle.exhaustive.specs.declared.answers.Answer.{Answer as Tried}
 use Rattle.exhaustive.specs.Answers.{Tries, leaves}
 use Rattle.capi_slow.specs.declared.pigrozd_slow_answer.{pigrozd_slow_answer as Given}
-use Rattle.capi_slow.specs.Calls.{slowFrom, SlowCalls}
+use Rattle.capi_slow.specs.Calls.{slow_from, SlowCalls}
 
-pub carried : {bytes o o' : List ℕ} (a : Tried) (r : Given) → ((l : List ℕ) → slowFrom r l ≡ leaves a l) → Tries bytes o o' a → SlowCalls bytes o o' r
+pub carried : {bytes o o' : List ℕ} (a : Tried) (r : Given) → ((l : List ℕ) → slow_from r l ≡ leaves a l) → Tries bytes o o' a → SlowCalls bytes o o' r
 carried {o' = o'} a r e t = record { is = e o' ∙ t.is }

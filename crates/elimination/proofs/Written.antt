@@ -9,24 +9,24 @@ use lib.ListN.{length, get_or, set, replicate, length-set, length-append, length
 use lib.Seq.{get_or-set_other, get_or-append_seam, get_or-append-add}
 use lib.Dec.{eqb, ltb}
 use borrow.Author.Tests.{eq-eqb, ne_eqb, ltb-true, ltb-false}
-use Rattle.semantics.specs.Lists.{filter, consIf, concatMap, from}
+use Rattle.semantics.specs.Lists.{filter, cons_if, concat_map, from}
 use Rattle.theory.specs.Elements.{only_if}
 use Rattle.semantics.specs.Plans.{encode}
 use Rattle.theory.proofs.Cases.{cases}
-use Rattle.theory.proofs.Lists.{Each-map, filter-append, filter-each, concatMap-append}
-use Rattle.theory.proofs.Numbers.{filter-last, from-lt, from-split}
-use Rattle.semantics.specs.Elimination.{Hanging, planUnder}
+use Rattle.theory.proofs.Lists.{Each-map, filter-append, filter_each, concat_map-append}
+use Rattle.theory.proofs.Numbers.{filter_last, from-lt, from-split}
+use Rattle.semantics.specs.Elimination.{Hanging, plan_under}
 use Rattle.words.proofs.Arrays.{set_more}
-use Rattle.elimination.proofs.PlanBytes.{plan-bytes, concatMap-last}
-use Rattle.elimination.specs.Steps.{hungUnder, ParentsAre}
-use Rattle.elimination.specs.Writing.{HungOnce, childCount, Wrote, Writable, PlanWrote, Joining, plansBelow, Planning}
+use Rattle.elimination.proofs.PlanBytes.{plan-bytes, concat_map_last}
+use Rattle.elimination.specs.Steps.{hung_under, ParentsAre}
+use Rattle.elimination.specs.Writing.{HungOnce, child_count, Wrote, Writable, PlanWrote, Joining, plans_below, Planning}
 
 -- ---- bytes one after the other
 pub wrote_none : (code : List ℕ) (at : ℕ) → Wrote code at [] code at
 wrote_none code at = record { end = omega arith; size = refl; before = λ i h. refl; here = λ i h. absurd (omega arith) }
 
-pub wrote-byte : {old : List ℕ} {at : ℕ} {bytes code : List ℕ} {next : ℕ} (x : ℕ) → Wrote old at bytes code next → next < length old → Wrote old at (bytes ++ (x ∷ [])) (set code next x) (next + 1)
-wrote-byte {old} {at} {bytes} {code} {next} x w h =
+pub wrote_byte : {old : List ℕ} {at : ℕ} {bytes code : List ℕ} {next : ℕ} (x : ℕ) → Wrote old at bytes code next → next < length old → Wrote old at (bytes ++ (x ∷ [])) (set code next x) (next + 1)
+wrote_byte {old} {at} {bytes} {code} {next} x w h =
     record {
       end = omega (arith, w.end, length-append bytes (x ∷ []));
       size = length-set code next x ∙ w.size;
@@ -39,8 +39,8 @@ wrote-byte {old} {at} {bytes} {code} {next} x w h =
           (at + i) (omega (arith, w.end, length-append bytes (x ∷ []))) i refl;
     }
 
-pub wrote-more : {old : List ℕ} {at : ℕ} {bytes mid : List ℕ} {next : ℕ} {more code : List ℕ} {last : ℕ} → Wrote old at bytes mid next → Wrote mid next more code last → Wrote old at (bytes ++ more) code last
-wrote-more {old} {at} {bytes} {mid} {next} {more} {code} {last} v w =
+pub wrote_more : {old : List ℕ} {at : ℕ} {bytes mid : List ℕ} {next : ℕ} {more code : List ℕ} {last : ℕ} → Wrote old at bytes mid next → Wrote mid next more code last → Wrote old at (bytes ++ more) code last
+wrote_more {old} {at} {bytes} {mid} {next} {more} {code} {last} v w =
     record {
       end = omega (arith, v.end, w.end, length-append bytes more);
       size = w.size ∙ v.size;
@@ -58,11 +58,11 @@ wrote-more {old} {at} {bytes} {mid} {next} {more} {code} {last} v w =
     }
 
 -- ---- the joins
-count-last : (parents : List ℕ) (t c : ℕ) → childCount parents t (c + 1) ≡ childCount parents t c + length (consIf (eqb (get_or parents c 0) t) c [])
-count-last parents t c =
-    ap length (filter-last (λ c. eqb (get_or parents c 0) t) c) ∙ length-append (filter (λ c. eqb (get_or parents c 0) t) (from 0 c)) (consIf (eqb (get_or parents c 0) t) c [])
+count_last : (parents : List ℕ) (t c : ℕ) → child_count parents t (c + 1) ≡ child_count parents t c + length (cons_if (eqb (get_or parents c 0) t) c [])
+count_last parents t c =
+    ap length (filter_last (λ c. eqb (get_or parents c 0) t) c) ∙ length-append (filter (λ c. eqb (get_or parents c 0) t) (from 0 c)) (cons_if (eqb (get_or parents c 0) t) c [])
 
-count-within : (parents : List ℕ) (t c n : ℕ) → c ≤ n → childCount parents t c ≤ childCount parents t n
+count-within : (parents : List ℕ) (t c n : ℕ) → c ≤ n → child_count parents t c ≤ child_count parents t n
 count-within parents t c n h =
     let q : ℕ → Bool = λ c. eqb (get_or parents c 0) t in
     let e : c + (n - c) ≡ n = omega arith in
@@ -75,76 +75,76 @@ module _ {parents : List ℕ} {n t : ℕ} {old : List ℕ} {at : ℕ} where
 
   pub joining-skip : {code : List ℕ} {next c : ℕ} → Joining parents n t old at code next c → c < n → (get_or parents c 0 ≡ t → ⊥) → Joining parents n t old at code next (c + 1)
   joining-skip {code} {next} {c} j h d =
-      let same : childCount parents t (c + 1) ≡ childCount parents t c = count-last parents t c ∙ rw (ne_eqb (get_or parents c 0) t d) (omega arith) in
+      let same : child_count parents t (c + 1) ≡ child_count parents t c = count_last parents t c ∙ rw (ne_eqb (get_or parents c 0) t d) (omega arith) in
       record { within = omega arith; wrote = rw same j.wrote }
 
-  pub joining-room : {code : List ℕ} {next c : ℕ} → Joining parents n t old at code next c → c < n → get_or parents c 0 ≡ t → at + childCount parents t n ≤ 31 → next < 31
+  pub joining-room : {code : List ℕ} {next c : ℕ} → Joining parents n t old at code next c → c < n → get_or parents c 0 ≡ t → at + child_count parents t n ≤ 31 → next < 31
   joining-room {code} {next} {c} j h e r =
-      let one : childCount parents t (c + 1) ≡ childCount parents t c + 1 = count-last parents t c ∙ rw (eq-eqb (get_or parents c 0) t e) in
-      omega (arith, one, count-within parents t (c + 1) n (omega arith), j.wrote.end, length-replicate {A = ℕ} (childCount parents t c) 255)
+      let one : child_count parents t (c + 1) ≡ child_count parents t c + 1 = count_last parents t c ∙ rw (eq-eqb (get_or parents c 0) t e) in
+      omega (arith, one, count-within parents t (c + 1) n (omega arith), j.wrote.end, length-replicate {A = ℕ} (child_count parents t c) 255)
 
-  pub joining-more : {code : List ℕ} {next c : ℕ} → Joining parents n t old at code next c → c < n → get_or parents c 0 ≡ t → next < length old → Joining parents n t old at (set code next 255) (next + 1) (c + 1)
-  joining-more {code} {next} {c} j h e r =
-      let one : childCount parents t (c + 1) ≡ childCount parents t c + 1 = count-last parents t c ∙ rw (eq-eqb (get_or parents c 0) t e) in
-      let bytes : replicate {A = ℕ} (childCount parents t (c + 1)) 255 ≡ replicate (childCount parents t c) 255 ++ (255 ∷ []) = ap (λ k. replicate {A = ℕ} k 255) one ∙ sym (replicate-append-replicate (childCount parents t c) 1 255) in
-      record { within = omega arith; wrote = rw bytes (wrote-byte 255 j.wrote r) }
+  pub joining_more : {code : List ℕ} {next c : ℕ} → Joining parents n t old at code next c → c < n → get_or parents c 0 ≡ t → next < length old → Joining parents n t old at (set code next 255) (next + 1) (c + 1)
+  joining_more {code} {next} {c} j h e r =
+      let one : child_count parents t (c + 1) ≡ child_count parents t c + 1 = count_last parents t c ∙ rw (eq-eqb (get_or parents c 0) t e) in
+      let bytes : replicate {A = ℕ} (child_count parents t (c + 1)) 255 ≡ replicate (child_count parents t c) 255 ++ (255 ∷ []) = ap (λ k. replicate {A = ℕ} k 255) one ∙ sym (replicate-append-replicate (child_count parents t c) 1 255) in
+      record { within = omega arith; wrote = rw bytes (wrote_byte 255 j.wrote r) }
 
-  pub joining-all : {code : List ℕ} {next c : ℕ} → Joining parents n t old at code next c → n ≤ c → Wrote old at (replicate (childCount parents t n) 255) code next
-  joining-all {code} {next} {c} j h = let e : c ≡ n = omega (arith, j.within) in subst (λ k. Wrote old at (replicate (childCount parents t k) 255) code next) e j.wrote
+  pub joining_all : {code : List ℕ} {next c : ℕ} → Joining parents n t old at code next c → n ≤ c → Wrote old at (replicate (child_count parents t n) 255) code next
+  joining_all {code} {next} {c} j h = let e : c ≡ n = omega (arith, j.within) in subst (λ k. Wrote old at (replicate (child_count parents t k) 255) code next) e j.wrote
 
 -- ---- the plan
 module _ (parents : List ℕ) (n t : ℕ) (few : n ≤ 16) (small : t < 16) (hs : List Hanging) (o : HungOnce n hs) (named : ParentsAre parents hs) where
   abbrev kid : ℕ → List ℕ
-  kid x = only_if (hungUnder hs t x) (encode (planUnder hs x))
+  kid x = only_if (hung_under hs t x) (encode (plan_under hs x))
 
-  plan-whole : plansBelow parents n t hs n ≡ encode (planUnder hs t)
-  plan-whole =
-      let q : filter (λ c. eqb (get_or parents c 0) t) (from 0 n) ≡ filter (hungUnder hs t) (from 0 n)
-      = filter-each (λ c. eqb (get_or parents c 0) t) (hungUnder hs t) (from 0 n)
-      (Each-map (λ y. (0 ≤ y) × (y < 0 + n)) (λ c. eqb (get_or parents c 0) t ≡ hungUnder hs t c) (λ c l. named t c small (omega arith)) (from 0 n) (from-lt 0 n)) in
-      ap (λ l. replicate (length l) 255 ++ (t ∷ concatMap kid (from 0 n))) q ∙ sym (plan-bytes n hs t o)
+  plan_whole : plans_below parents n t hs n ≡ encode (plan_under hs t)
+  plan_whole =
+      let q : filter (λ c. eqb (get_or parents c 0) t) (from 0 n) ≡ filter (hung_under hs t) (from 0 n)
+      = filter_each (λ c. eqb (get_or parents c 0) t) (hung_under hs t) (from 0 n)
+      (Each-map (λ y. (0 ≤ y) × (y < 0 + n)) (λ c. eqb (get_or parents c 0) t ≡ hung_under hs t c) (λ c l. named t c small (omega arith)) (from 0 n) (from-lt 0 n)) in
+      ap (λ l. replicate (length l) 255 ++ (t ∷ concat_map kid (from 0 n))) q ∙ sym (plan-bytes n hs t o)
 
-  plans-more : (c : ℕ) → plansBelow parents n t hs (c + 1) ≡ plansBelow parents n t hs c ++ kid c
-  plans-more c =
-      let R : List ℕ = replicate (childCount parents t n) 255 in
+  plans_more : (c : ℕ) → plans_below parents n t hs (c + 1) ≡ plans_below parents n t hs c ++ kid c
+  plans_more c =
+      let R : List ℕ = replicate (child_count parents t n) 255 in
       let e : c + 1 ≡ suc c = add-one c in
       let z : 0 + c ≡ c = omega arith in
-      let last : concatMap kid (from 0 (c + 1)) ≡ concatMap kid (from 0 c) ++ kid c = ap (λ k. concatMap kid (from 0 k)) e ∙ concatMap-last kid 0 c ∙ ap (λ k. concatMap kid (from 0 c) ++ kid k) z in
-      ap (λ l. R ++ (t ∷ l)) last ∙ sym (append_assoc R (t ∷ concatMap kid (from 0 c)) (kid c))
+      let last : concat_map kid (from 0 (c + 1)) ≡ concat_map kid (from 0 c) ++ kid c = ap (λ k. concat_map kid (from 0 k)) e ∙ concat_map_last kid 0 c ∙ ap (λ k. concat_map kid (from 0 c) ++ kid k) z in
+      ap (λ l. R ++ (t ∷ l)) last ∙ sym (append_assoc R (t ∷ concat_map kid (from 0 c)) (kid c))
 
   -- what is written before and with the children below c is a part of the plan
-  plans-within : (c : ℕ) → c ≤ n → length (plansBelow parents n t hs c) ≤ length (encode (planUnder hs t))
+  plans-within : (c : ℕ) → c ≤ n → length (plans_below parents n t hs c) ≤ length (encode (plan_under hs t))
   plans-within c h =
       let e : c + (n - c) ≡ n = omega arith in
-      let R : List ℕ = replicate (childCount parents t n) 255 in
-      let C = concatMap kid (from 0 c) in
-      let D = concatMap kid (from (0 + c) (n - c)) in
-      let split : concatMap kid (from 0 n) ≡ C ++ D = ap (λ k. concatMap kid (from 0 k)) (sym e) ∙ ap (concatMap kid) (from-split 0 c (n - c)) ∙ concatMap-append kid (from 0 c) (from (0 + c) (n - c)) in
-      omega (arith, sym (ap length plan-whole), length-append R (t ∷ concatMap kid (from 0 n)), length-append R (t ∷ C), ap length split, length-append C D)
+      let R : List ℕ = replicate (child_count parents t n) 255 in
+      let C = concat_map kid (from 0 c) in
+      let D = concat_map kid (from (0 + c) (n - c)) in
+      let split : concat_map kid (from 0 n) ≡ C ++ D = ap (λ k. concat_map kid (from 0 k)) (sym e) ∙ ap (concat_map kid) (from-split 0 c (n - c)) ∙ concat_map-append kid (from 0 c) (from (0 + c) (n - c)) in
+      omega (arith, sym (ap length plan_whole), length-append R (t ∷ concat_map kid (from 0 n)), length-append R (t ∷ C), ap length split, length-append C D)
 
 module _ {parents : List ℕ} {n t : ℕ} {at : ℕ} (w : Writable parents n t at) where
   -- there is room for the joins, and for the table behind them
-  pub joins-fit : at + childCount parents t n < 31
-  joins-fit =
-      let R : List ℕ = replicate (childCount parents t n) 255 in
-      omega (arith, w.fits, plans-within parents n t w.few w.below w.hung w.once w.named 0 zero-le, length-append R (t ∷ []), length-replicate {A = ℕ} (childCount parents t n) 255)
+  pub joins_fit : at + child_count parents t n < 31
+  joins_fit =
+      let R : List ℕ = replicate (child_count parents t n) 255 in
+      omega (arith, w.fits, plans-within parents n t w.few w.below w.hung w.once w.named 0 zero-le, length-append R (t ∷ []), length-replicate {A = ℕ} (child_count parents t n) 255)
 
   module _ {old : List ℕ} where
-    pub table_fits : {code : List ℕ} {next : ℕ} → Wrote old at (replicate (childCount parents t n) 255) code next → next < 31
-    table_fits j = omega (arith, j.end, joins-fit, length-replicate {A = ℕ} (childCount parents t n) 255)
+    pub table_fits : {code : List ℕ} {next : ℕ} → Wrote old at (replicate (child_count parents t n) 255) code next → next < 31
+    table_fits j = omega (arith, j.end, joins_fit, length-replicate {A = ℕ} (child_count parents t n) 255)
 
-    pub planning-begun : {code : List ℕ} {next : ℕ} → Wrote old at (replicate (childCount parents t n) 255) code next → length old ≡ 31 → Planning parents n t old at (set code next (t % 256)) (next + 1) 0
+    pub planning-begun : {code : List ℕ} {next : ℕ} → Wrote old at (replicate (child_count parents t n) 255) code next → length old ≡ 31 → Planning parents n t old at (set code next (t % 256)) (next + 1) 0
     planning-begun {code} {next} j l =
         let e : t % 256 ≡ t = omega (arith, w.below) in
         record {
           within = zero-le;
-          wrote = λ hs o named. subst (λ x. Wrote old at (replicate (childCount parents t n) 255 ++ (x ∷ [])) (set code next (t % 256)) (next + 1)) e
-              (wrote-byte (t % 256) j (omega (arith, j.end, joins-fit, length-replicate {A = ℕ} (childCount parents t n) 255, l)));
+          wrote = λ hs o named. subst (λ x. Wrote old at (replicate (child_count parents t n) 255 ++ (x ∷ [])) (set code next (t % 256)) (next + 1)) e
+              (wrote_byte (t % 256) j (omega (arith, j.end, joins_fit, length-replicate {A = ℕ} (child_count parents t n) 255, l)));
         }
 
     module _ {code : List ℕ} {next c : ℕ} (p : Planning parents n t old at code next c) where
       pub planning-later : at < next
-      planning-later = omega (arith, (p.wrote w.hung w.once w.named).end, length-append (replicate {A = ℕ} (childCount parents t n) 255) (t ∷ concatMap (kid parents n t w.few w.below w.hung w.once w.named) (from 0 c)))
+      planning-later = omega (arith, (p.wrote w.hung w.once w.named).end, length-append (replicate {A = ℕ} (child_count parents t n) 255) (t ∷ concat_map (kid parents n t w.few w.below w.hung w.once w.named) (from 0 c)))
 
       pub planning-size : length code ≡ length old
       planning-size = (p.wrote w.hung w.once w.named).size
@@ -155,36 +155,36 @@ module _ {parents : List ℕ} {n t : ℕ} {at : ℕ} (w : Writable parents n t a
             record {
               within = omega arith;
               wrote = λ hs o named.
-                  let none : hungUnder hs t c ≡ false = sym (named t c w.below (omega (arith, w.few))) ∙ ne_eqb (get_or parents c 0) t d in
-                  let same : plansBelow parents n t hs (c + 1) ≡ plansBelow parents n t hs c
-                  = plans-more parents n t w.few w.below hs o named c ∙ ap (λ b. plansBelow parents n t hs c ++ only_if b (encode (planUnder hs c))) none ∙ append-nil (plansBelow parents n t hs c) in
+                  let none : hung_under hs t c ≡ false = sym (named t c w.below (omega (arith, w.few))) ∙ ne_eqb (get_or parents c 0) t d in
+                  let same : plans_below parents n t hs (c + 1) ≡ plans_below parents n t hs c
+                  = plans_more parents n t w.few w.below hs o named c ∙ ap (λ b. plans_below parents n t hs c ++ only_if b (encode (plan_under hs c))) none ∙ append-nil (plans_below parents n t hs c) in
                   subst (λ l. Wrote old at l code next) (sym same) (p.wrote hs o named);
             }
 
-        child-bytes : (e : get_or parents c 0 ≡ t) (hs : List Hanging) → HungOnce n hs → ParentsAre parents hs → plansBelow parents n t hs (c + 1) ≡ plansBelow parents n t hs c ++ encode (planUnder hs c)
+        child-bytes : (e : get_or parents c 0 ≡ t) (hs : List Hanging) → HungOnce n hs → ParentsAre parents hs → plans_below parents n t hs (c + 1) ≡ plans_below parents n t hs c ++ encode (plan_under hs c)
         child-bytes e hs o named =
-            let one : hungUnder hs t c ≡ true = sym (named t c w.below (omega (arith, w.few))) ∙ eq-eqb (get_or parents c 0) t e in
-            plans-more parents n t w.few w.below hs o named c ∙ ap (λ b. plansBelow parents n t hs c ++ only_if b (encode (planUnder hs c))) one
+            let one : hung_under hs t c ≡ true = sym (named t c w.below (omega (arith, w.few))) ∙ eq-eqb (get_or parents c 0) t e in
+            plans_more parents n t w.few w.below hs o named c ∙ ap (λ b. plans_below parents n t hs c ++ only_if b (encode (plan_under hs c))) one
 
-        pub child-writable : get_or parents c 0 ≡ t → Writable parents n c next
-        child-writable e =
+        pub child_writable : get_or parents c 0 ≡ t → Writable parents n c next
+        child_writable e =
             record {
               few = w.few;
               below = omega (arith, w.few);
               hung = w.hung;
               once = w.once;
               named = w.named;
-              fits = omega (arith, w.fits, plans-within parents n t w.few w.below w.hung w.once w.named (c + 1) (omega arith), ap length (child-bytes e w.hung w.once w.named), length-append (plansBelow parents n t w.hung c) (encode (planUnder w.hung c)), (p.wrote w.hung w.once w.named).end);
+              fits = omega (arith, w.fits, plans-within parents n t w.few w.below w.hung w.once w.named (c + 1) (omega arith), ap length (child-bytes e w.hung w.once w.named), length-append (plans_below parents n t w.hung c) (encode (plan_under w.hung c)), (p.wrote w.hung w.once w.named).end);
             }
 
-        pub planning-more : {code' : List ℕ} {last : ℕ} → get_or parents c 0 ≡ t → PlanWrote parents n c code next code' last → Planning parents n t old at code' last (c + 1)
-        planning-more {code'} {last} e k =
+        pub planning_more : {code' : List ℕ} {last : ℕ} → get_or parents c 0 ≡ t → PlanWrote parents n c code next code' last → Planning parents n t old at code' last (c + 1)
+        planning_more {code'} {last} e k =
             record {
               within = omega arith;
-              wrote = λ hs o named. subst (λ l. Wrote old at l code' last) (sym (child-bytes e hs o named)) (wrote-more (p.wrote hs o named) (k hs o named));
+              wrote = λ hs o named. subst (λ l. Wrote old at l code' last) (sym (child-bytes e hs o named)) (wrote_more (p.wrote hs o named) (k hs o named));
             }
 
-      pub planning-all : n ≤ c → PlanWrote parents n t old at code next
-      planning-all h hs o named =
+      pub planning_all : n ≤ c → PlanWrote parents n t old at code next
+      planning_all h hs o named =
           let e : c ≡ n = omega (arith, p.within) in
-          subst (λ l. Wrote old at l code next) (ap (plansBelow parents n t hs) e ∙ plan-whole parents n t w.few w.below hs o named) (p.wrote hs o named)
+          subst (λ l. Wrote old at l code next) (ap (plans_below parents n t hs) e ∙ plan_whole parents n t w.few w.below hs o named) (p.wrote hs o named)

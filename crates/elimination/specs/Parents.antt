@@ -3,7 +3,7 @@ use Rattle.std.specs.Prelude.{◌≡◌, Bool, false, List, ℕ, ◌-◌, ◌≤
 use Rattle.std.proofs.Math.Option.{Option, none, some}
 use Rattle.std.specs.Int.Bits.{bit_and}
 use Rattle.semantics.specs.Lists.{any, filter, first, from}
-use Rattle.semantics.specs.Files.{hasBit}
+use Rattle.semantics.specs.Files.{has_bit}
 use Rattle.semantics.specs.Shapes.{Shape}
 use Rattle.semantics.specs.Elimination.{without, parent_of}
 use Rattle.words.specs.Masks.{Masked}
@@ -16,19 +16,19 @@ remaining n flags = filter (λ t. get_or flags t false) (from 0 n)
 
 -- the attributes of m are those of the tables rs but t
 abbrev pub OthersHave : List ℕ → List ℕ → ℕ → ℕ → Type 0
-OthersHave masks rs t m = (a : ℕ) → hasBit m a ≡ any (λ u. hasBit (get_or masks u 0) a) (without t rs)
+OthersHave masks rs t m = (a : ℕ) → has_bit m a ≡ any (λ u. has_bit (get_or masks u 0) a) (without t rs)
 
 -- the first of the tables rs but t that has all attributes of the mask
-abbrev pub firstCovering : List ℕ → List ℕ → ℕ → ℕ → Option ℕ
-firstCovering masks rs t m = first (λ u. eqb (bit_and m (get_or masks u 0)) m) (without t rs)
+abbrev pub first_covering : List ℕ → List ℕ → ℕ → ℕ → Option ℕ
+first_covering masks rs t m = first (λ u. eqb (bit_and m (get_or masks u 0)) m) (without t rs)
 
-abbrev pub parentFound : Option ℕ → Parent
-parentFound none = parent.Nowhere
-parentFound (some u) = parent.Under u
+abbrev pub parent_found : Option ℕ → Parent
+parent_found none = parent.Nowhere
+parent_found (some u) = parent.Under u
 
 -- r is the parent of t, whatever tables have these masks
 abbrev pub ParentIn : List ℕ → List ℕ → ℕ → Parent → Type 0
-ParentIn masks rs t r = (S : Shape) → Masked masks S → r ≡ parentFound (parent_of S rs t)
+ParentIn masks rs t r = (S : Shape) → Masked masks S → r ≡ parent_found (parent_of S rs t)
 
 -- ---- what the searches keep
 -- the attributes of the remaining tables below u, but t, are gathered
@@ -39,4 +39,4 @@ pub record Gathered (masks : List ℕ) (flags : List Bool) (n t u have : ℕ) : 
 -- none of the remaining tables below u, but t, covers the mask m
 pub record Uncovered (masks : List ℕ) (flags : List Bool) (n t m u : ℕ) : Type 0 where
   pub within : u ≤ n
-  pub ahead : firstCovering masks (remaining n flags) t m ≡ firstCovering masks (filter (λ v. get_or flags v false) (from u (n - u))) t m
+  pub ahead : first_covering masks (remaining n flags) t m ≡ first_covering masks (filter (λ v. get_or flags v false) (from u (n - u))) t m

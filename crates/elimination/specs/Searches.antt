@@ -2,7 +2,7 @@
 use Rattle.std.specs.Prelude.{◌≡◌, List, ℕ, ◌≤◌, length, take}
 use Rattle.semantics.specs.Plans.{encode}
 use Rattle.semantics.specs.Shapes.{Shape}
-use Rattle.semantics.specs.Elimination.{Elimination, rooted, stuck, eliminate, planUnder}
+use Rattle.semantics.specs.Elimination.{Elimination, rooted, stuck, eliminate, plan_under}
 use Rattle.words.specs.Masks.{Masked}
 use Rattle.elimination.specs.declared.Search.{Search}
 use Rattle.elimination.specs.declared.Search.TheVariants as search
@@ -10,7 +10,7 @@ use Rattle.elimination.specs.declared.Search.TheVariants as search
 -- the buffer begins with the bytes of the plan that is found, of that length, and those behind them are left open; or none is found, and
 -- the buffer is as it was
 abbrev pub SearchIs : Elimination → Search → List ℕ → List ℕ → Type 0
-SearchIs (rooted t hs) r before out = (n : ℕ) × (r ≡ search.Plan n) × (n ≤ 31) × (length out ≡ 31) × (take n out ≡ encode (planUnder hs t))
+SearchIs (rooted t hs) r before out = (n : ℕ) × (r ≡ search.Plan n) × (n ≤ 31) × (length out ≡ 31) × (take n out ≡ encode (plan_under hs t))
 SearchIs (stuck d) r before out = (r ≡ search.Stuck d) × (out ≡ before)
 
 -- the end of the search among the tables 0 to n - 1, whatever tables have these masks

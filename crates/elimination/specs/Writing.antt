@@ -1,25 +1,25 @@
 -- What the writing of a plan promises.
 use Rattle.std.specs.Prelude.{◌≡◌, Bool, false, ◌||◌, List, [], ◌∷◌, ◌++◌, ℕ, ◌+◌, ◌≤◌, ◌<◌, length, get_or, replicate, eqb}
-use Rattle.semantics.specs.Lists.{filter, concatMap, from}
+use Rattle.semantics.specs.Lists.{filter, concat_map, from}
 use Rattle.theory.specs.Elements.{only_if}
 use Rattle.semantics.specs.Plans.{encode}
-use Rattle.semantics.specs.Elimination.{Hanging, planUnder}
-use Rattle.elimination.specs.Steps.{hungUnder, ParentsAre}
+use Rattle.semantics.specs.Elimination.{Hanging, plan_under}
+use Rattle.elimination.specs.Steps.{hung_under, ParentsAre}
 
 -- c hangs
-abbrev pub isHung : List Hanging → ℕ → Bool
-isHung [] c = false
-isHung (h ∷ hs) c = eqb c h.child || isHung hs c
+abbrev pub is_hung : List Hanging → ℕ → Bool
+is_hung [] c = false
+is_hung (h ∷ hs) c = eqb c h.child || is_hung hs c
 
 -- each of the tables below n is hung once at most, and under one that is not yet hung
 abbrev pub HungOnce : ℕ → List Hanging → Type 0
 HungOnce n [] = Unit {0}
 HungOnce n (h ∷ hs) =
-    (h.child < n) × (isHung hs h.child ≡ false) × (isHung hs h.parent ≡ false) × (h.parent ≡ h.child → ⊥) × HungOnce n hs
+    (h.child < n) × (is_hung hs h.child ≡ false) × (is_hung hs h.parent ≡ false) × (h.parent ≡ h.child → ⊥) × HungOnce n hs
 
 -- how many of the tables below n hang under t
-abbrev pub childCount : List ℕ → ℕ → ℕ → ℕ
-childCount parents t n = length (filter (λ c. eqb (get_or parents c 0) t) (from 0 n))
+abbrev pub child_count : List ℕ → ℕ → ℕ → ℕ
+child_count parents t n = length (filter (λ c. eqb (get_or parents c 0) t) (from 0 n))
 
 -- the bytes stand in code from index at up to next; what is before at is as it was in old
 pub record Wrote (old : List ℕ) (at : ℕ) (bytes : List ℕ) (code : List ℕ) (next : ℕ) : Type 0 where
@@ -35,23 +35,23 @@ pub record Writable (parents : List ℕ) (n t at : ℕ) : Type 0 where
   pub hung : List Hanging
   pub once : HungOnce n hung
   pub named : ParentsAre parents hung
-  pub fits : at + length (encode (planUnder hung t)) ≤ 31
+  pub fits : at + length (encode (plan_under hung t)) ≤ 31
 
 -- the plan of t is written
 abbrev pub PlanWrote : List ℕ → ℕ → ℕ → List ℕ → ℕ → List ℕ → ℕ → Type 0
 PlanWrote parents n t old at code next =
-    (hs : List Hanging) → HungOnce n hs → ParentsAre parents hs → Wrote old at (encode (planUnder hs t)) code next
+    (hs : List Hanging) → HungOnce n hs → ParentsAre parents hs → Wrote old at (encode (plan_under hs t)) code next
 
 -- an FF is written for each child below c
 pub record Joining (parents : List ℕ) (n t : ℕ) (old : List ℕ) (at : ℕ) (code : List ℕ) (next c : ℕ) : Type 0 where
   pub within : c ≤ n
-  pub wrote : Wrote old at (replicate (childCount parents t c) 255) code next
+  pub wrote : Wrote old at (replicate (child_count parents t c) 255) code next
 
 -- the joins, the table, and the plans of the children below c
-abbrev pub plansBelow : List ℕ → ℕ → ℕ → List Hanging → ℕ → List ℕ
-plansBelow parents n t hs c =
-    replicate (childCount parents t n) 255 ++ (t ∷ concatMap (λ x. only_if (hungUnder hs t x) (encode (planUnder hs x))) (from 0 c))
+abbrev pub plans_below : List ℕ → ℕ → ℕ → List Hanging → ℕ → List ℕ
+plans_below parents n t hs c =
+    replicate (child_count parents t n) 255 ++ (t ∷ concat_map (λ x. only_if (hung_under hs t x) (encode (plan_under hs x))) (from 0 c))
 
 pub record Planning (parents : List ℕ) (n t : ℕ) (old : List ℕ) (at : ℕ) (code : List ℕ) (next c : ℕ) : Type 0 where
   pub within : c ≤ n
-  pub wrote : (hs : List Hanging) → HungOnce n hs → ParentsAre parents hs → Wrote old at (plansBelow parents n t hs c) code next
+  pub wrote : (hs : List Hanging) → HungOnce n hs → ParentsAre parents hs → Wrote old at (plans_below parents n t hs c) code next

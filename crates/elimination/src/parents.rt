@@ -1,6 +1,6 @@
 // The table under which one hangs: the lowest-numbered other remaining one that has all attributes it shares with them.
 ghost use Rattle.std.specs.Prelude.{◌≡◌, ◌<◌, ◌≤◌};
-ghost use Rattle.elimination.specs.Parents.{remaining, OthersHave, firstCovering, parentFound, ParentIn};
+ghost use Rattle.elimination.specs.Parents.{remaining, OthersHave, first_covering, parent_found, ParentIn};
 
 // The table under which one hangs, where there is one.
 #[derive(Drop)]
@@ -36,7 +36,7 @@ fn first_covering(
     shared: u32,
 ) -> Parent
     requires { count ≤ 16 }
-    ensures { result ≡ parentFound (firstCovering masks.now (remaining count rest.now) t shared) }
+    ensures { result ≡ parent_found (first_covering masks.now (remaining count rest.now) t shared) }
 {
     let mut c = 0;
     while c < count {

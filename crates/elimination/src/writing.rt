@@ -1,6 +1,6 @@
 // The bytes of the plan: an FF for each child of a table, the table, and its children's plans in rising number.
 ghost use Rattle.std.specs.Prelude.{◌≡◌, length, replicate, ◌+◌, ◌≤◌};
-ghost use Rattle.elimination.specs.Writing.{childCount, Wrote, Writable, PlanWrote};
+ghost use Rattle.elimination.specs.Writing.{child_count, Wrote, Writable, PlanWrote};
 
 // An FF for each child of t, from an index on; the index behind them.
 fn write_joins(
@@ -10,8 +10,8 @@ fn write_joins(
     code: &mut [u8; 31],
     at: usize,
 ) -> usize
-    requires { (count ≤ 16) × (length code.old ≡ 31) × (at + childCount parents.now t count ≤ 31) }
-    ensures { Wrote code.old at (replicate (childCount parents.now t count) 255) code.new result }
+    requires { (count ≤ 16) × (length code.old ≡ 31) × (at + child_count parents.now t count ≤ 31) }
+    ensures { Wrote code.old at (replicate (child_count parents.now t count) 255) code.new result }
 {
     let mut next = at;
     let mut c = 0;

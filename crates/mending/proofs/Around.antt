@@ -11,9 +11,9 @@ use Rattle.theory.specs.Rules.{Small}
 use Rattle.semantics.specs.Lists.{any}
 use Rattle.theory.proofs.Cases.{cases, or_cases}
 use Rattle.theory.proofs.Lists.{any_append}
-use Rattle.semantics.specs.JoinTrees.{namesTable, hangUnder}
+use Rattle.semantics.specs.JoinTrees.{names_table, hang_under}
 use Rattle.theory.proofs.Mending.{not_left}
-use Rattle.theory.proofs.Spelling.{encode-some}
+use Rattle.theory.proofs.Spelling.{encode_some}
 
 -- no bytes, or the last of them is a table number
 abbrev pub EndsInTable : List ℕ → Type 0
@@ -32,7 +32,7 @@ pub record Around (p : Plan) (x : ℕ) : Type 0 where
   pub longest : EndsInTable before
   pub whole : before ≡ [] → leftmost p ≡ x
   pub is : encode p ≡ before ++ (encode plan ++ behind)
-  pub hung : (c : Plan) → encode (hangUnder x c p) ≡ before ++ (0xFF ∷ (encode plan ++ (encode c ++ behind)))
+  pub hung : (c : Plan) → encode (hang_under x c p) ≡ before ++ (0xFF ∷ (encode plan ++ (encode c ++ behind)))
 
 ends-cons : (b : ℕ) (bs : List ℕ) → (bs ≡ [] → ⊥) → EndsInTable bs → EndsInTable (b ∷ bs)
 ends-cons b [] n e = absurd (n refl)
@@ -44,33 +44,33 @@ ends-append (a ∷ []) [] e f = e
 ends-append (a ∷ []) (b ∷ bs) e f = f
 ends-append (a ∷ (c ∷ xs)) bs e f = ends-append (c ∷ xs) bs e f
 
-append-some : (xs bs : List ℕ) → (xs ≡ [] → ⊥) → xs ++ bs ≡ [] → ⊥
-append-some [] bs n e = n refl
-append-some (a ∷ xs) bs n e = let z : ◌≡◌ {A = ℕ} 0 1 = cc in omega arith
+append_some : (xs bs : List ℕ) → (xs ≡ [] → ⊥) → xs ++ bs ≡ [] → ⊥
+append_some [] bs n e = n refl
+append_some (a ∷ xs) bs n e = let z : ◌≡◌ {A = ℕ} 0 1 = cc in omega arith
 
 encode-ends : (p : Plan) → Small p → EndsInTable (encode p)
 encode-ends (scan t) s = s
 encode-ends (join l r) s =
-    ends-cons 255 (encode l ++ encode r) (append-some (encode l) (encode r) (encode-some l)) (ends-append (encode l) (encode r) (encode-ends l s.0) (encode-ends r s.1))
+    ends-cons 255 (encode l ++ encode r) (append_some (encode l) (encode r) (encode_some l)) (ends-append (encode l) (encode r) (encode-ends l s.0) (encode-ends r s.1))
 
-small-named : (p : Plan) (x : ℕ) → Small p → namesTable p x ≡ true → x < 16
+small-named : (p : Plan) (x : ℕ) → Small p → names_table p x ≡ true → x < 16
 small-named (scan t) x s n = or_cases (eqb x t) false n (λ h. omega (arith, eqb-true x t h)) (λ h. let z : ◌≡◌ {A = ℕ} 0 1 = cc in absurd (omega arith))
-small-named (join a b) x s n = or_cases (namesTable a x) (namesTable b x) (sym (any_append (eqb x) (tables a) (tables b)) ∙ n) (λ h. small-named a x s.0 h) (λ h. small-named b x s.1 h)
+small-named (join a b) x s n = or_cases (names_table a x) (names_table b x) (sym (any_append (eqb x) (tables a) (tables b)) ∙ n) (λ h. small-named a x s.0 h) (λ h. small-named b x s.1 h)
 
 -- the bytes of a plan that does not name x hold no x
-encode-absent : (p : Plan) (x : ℕ) → x < 16 → any (eqb x) (encode p) ≡ namesTable p x
+encode-absent : (p : Plan) (x : ℕ) → x < 16 → any (eqb x) (encode p) ≡ names_table p x
 encode-absent (scan t) x w = refl
 encode-absent (join a b) x w =
     rw (ne_eqb x 255 (λ e. omega arith))
     (any_append (eqb x) (encode a) (encode b) ∙ ap₂ (λ u v. u || v) (encode-absent a x w) (encode-absent b x w) ∙ sym (any_append (eqb x) (tables a) (tables b)))
 
-absent-behind : (a : Plan) (x : ℕ) (bs : List ℕ) → x < 16 → namesTable a x ≡ false → any (eqb x) bs ≡ false → any (eqb x) (255 ∷ (encode a ++ bs)) ≡ false
-absent-behind a x bs w n h = rw (ne_eqb x 255 (λ e. omega arith)) (any_append (eqb x) (encode a) bs ∙ ap₂ (λ u v. u || v) (encode-absent a x w ∙ n) h)
+absent_behind : (a : Plan) (x : ℕ) (bs : List ℕ) → x < 16 → names_table a x ≡ false → any (eqb x) bs ≡ false → any (eqb x) (255 ∷ (encode a ++ bs)) ≡ false
+absent_behind a x bs w n h = rw (ne_eqb x 255 (λ e. omega arith)) (any_append (eqb x) (encode a) bs ∙ ap₂ (λ u v. u || v) (encode-absent a x w ∙ n) h)
 
 absent-mark : (x : ℕ) (bs : List ℕ) → x < 16 → any (eqb x) bs ≡ false → any (eqb x) (255 ∷ bs) ≡ false
 absent-mark x bs w h = rw (ne_eqb x 255 (λ e. omega arith)) h
 
-pub around : (p : Plan) (x : ℕ) → Small p → namesTable p x ≡ true → Around p x
+pub around : (p : Plan) (x : ℕ) → Small p → names_table p x ≡ true → Around p x
 around (scan t) x s n =
     record {
       before = [];
@@ -96,10 +96,10 @@ around (join a b) x s n =
       longest = tt;
       whole = λ e. sym (eqb-true x (leftmost a) h);
       is = sym (append-nil (encode (join a b)));
-      hung = λ c. rw (h, hangUnder) (ap (λ l. 255 ∷ (encode (join a b) ++ l)) (sym (append-nil (encode c))));
+      hung = λ c. rw (h, hang_under) (ap (λ l. 255 ∷ (encode (join a b) ++ l)) (sym (append-nil (encode c))));
     })
     (λ h. let other : x ≡ leftmost a → ⊥ = eqb-false x (leftmost a) h in
-    cases (namesTable a x)
+    cases (names_table a x)
     (λ m. let o = around a x s.0 m in
     record {
       before = 255 ∷ o.before;
@@ -111,7 +111,7 @@ around (join a b) x s n =
       longest = ends-cons 255 o.before (λ e. other (sym (o.whole e))) o.longest;
       whole = λ e. cc;
       is = ap (λ l. 255 ∷ (l ++ encode b)) o.is ∙ simp append_assoc;
-      hung = λ c. rw (h, hangUnder) (rw m (ap (λ l. 255 ∷ (l ++ encode b)) (o.hung c) ∙ simp append_assoc));
+      hung = λ c. rw (h, hang_under) (rw m (ap (λ l. 255 ∷ (l ++ encode b)) (o.hung c) ∙ simp append_assoc));
     })
     (λ m. let o = around b x s.1 (not_left a b x m n) in
     record {
@@ -120,9 +120,9 @@ around (join a b) x s n =
       behind = o.behind;
       first = o.first;
       small = o.small;
-      absent = absent-behind a x o.before (small-named b x s.1 (not_left a b x m n)) m o.absent;
-      longest = ends-cons 255 (encode a ++ o.before) (append-some (encode a) o.before (encode-some a)) (ends-append (encode a) o.before (encode-ends a s.0) o.longest);
+      absent = absent_behind a x o.before (small-named b x s.1 (not_left a b x m n)) m o.absent;
+      longest = ends-cons 255 (encode a ++ o.before) (append_some (encode a) o.before (encode_some a)) (ends-append (encode a) o.before (encode-ends a s.0) o.longest);
       whole = λ e. cc;
       is = ap (λ l. 255 ∷ (encode a ++ l)) o.is ∙ simp append_assoc;
-      hung = λ c. rw (h, hangUnder) (rw m (ap (λ l. 255 ∷ (encode a ++ l)) (o.hung c) ∙ simp append_assoc));
+      hung = λ c. rw (h, hang_under) (rw m (ap (λ l. 255 ∷ (encode a ++ l)) (o.hung c) ∙ simp append_assoc));
     }))

@@ -12,13 +12,13 @@ use borrow.Author.Tests.{eqb-true, eqb-false, eq-eqb, lt-ltb, ltb-true, ltb-fals
 use Rattle.semantics.specs.Lists.{any, filter, head_of}
 use Rattle.semantics.specs.Plans.{Plan, scan, join, encode, leftmost}
 use Rattle.theory.proofs.Cases.{cases, or_cases}
-use Rattle.semantics.specs.JoinTrees.{namesTable, hangUnder}
+use Rattle.semantics.specs.JoinTrees.{names_table, hang_under}
 use Rattle.mending.proofs.Around.{EndsInTable, Around, around}
 use Rattle.words.proofs.Arrays.{take_last, take-set}
 use Rattle.mending.specs.Places.{PlanAt, Planned}
-use Rattle.mending.proofs.Places.{stands, plan-span}
-use Rattle.mending.specs.Hanging.{holdsKey, candidates, HolderAt, FirstHolder, RunStart, Spells}
-use Rattle.mending.proofs.Bytes.{found-names, names-small, plan-small}
+use Rattle.mending.proofs.Places.{stands, plan_span}
+use Rattle.mending.specs.Hanging.{holds_key, candidates, HolderAt, FirstHolder, RunStart, Spells}
+use Rattle.mending.proofs.Bytes.{found-names, names_small, plan_small}
 
 -- ---- copying
 pub copy_more : (source out before : List ℕ) (from to k : ℕ) → from + k < length source → to + k < length out → take (to + k) out ≡ before ++ take k (drop from source)
@@ -44,26 +44,26 @@ some_byte q r (b ∷ bs) e =
     later (k, a, g, h) = (suc k, omega arith, g, h)
 
 module _ (masks : List ℕ) (key : ℕ) where
-  head-candidate : (bs : List ℕ) (j : ℕ) → ((k : ℕ) → k < j → HolderAt masks key bs k → ⊥) → HolderAt masks key bs j → j < length bs → head_of (candidates masks key bs) ≡ get_or bs j 0
+  head_candidate : (bs : List ℕ) (j : ℕ) → ((k : ℕ) → k < j → HolderAt masks key bs k → ⊥) → HolderAt masks key bs j → j < length bs → head_of (candidates masks key bs) ≡ get_or bs j 0
   unfolding candidates
-  head-candidate [] j n h b = absurd (omega arith)
-  head-candidate (x ∷ bs) zero n h b = rw (lt-ltb x 16 h.table) (rw h.holds)
-  head-candidate (x ∷ bs) (suc j) n h b =
+  head_candidate [] j n h b = absurd (omega arith)
+  head_candidate (x ∷ bs) zero n h b = rw (lt-ltb x 16 h.table) (rw h.holds)
+  head_candidate (x ∷ bs) (suc j) n h b =
       cases (ltb x 16)
-      (λ g. cases (holdsKey key (get_or masks x 0))
+      (λ g. cases (holds_key key (get_or masks x 0))
       (λ i. absurd (n 0 (omega arith) (record { table = ltb-true x 16 g; holds = i })))
-      (λ i. rw g (rw i (head-candidate bs j (λ k w y. n (suc k) (omega arith) (record { table = y.table; holds = y.holds })) (record { table = h.table; holds = h.holds }) (omega arith)))))
-      (λ g. rw g (head-candidate bs j (λ k w y. n (suc k) (omega arith) (record { table = y.table; holds = y.holds })) (record { table = h.table; holds = h.holds }) (omega arith)))
+      (λ i. rw g (rw i (head_candidate bs j (λ k w y. n (suc k) (omega arith) (record { table = y.table; holds = y.holds })) (record { table = h.table; holds = h.holds }) (omega arith)))))
+      (λ g. rw g (head_candidate bs j (λ k w y. n (suc k) (omega arith) (record { table = y.table; holds = y.holds })) (record { table = h.table; holds = h.holds }) (omega arith)))
 
 -- ---- the longest plan that begins with a table
 leading : (q : Plan) → (r : ℕ) × (rest : List ℕ) × (encode q ≡ replicate r 255 ++ (leftmost q ∷ rest))
 leading (scan t) = (0, [], refl)
 leading (join l r) = let (n, rest, e) = leading l in (suc n, rest ++ encode r, ap (λ l. 255 ∷ (l ++ encode r)) e ∙ ap (λ l. 255 ∷ l) (append_assoc (replicate n 255) (leftmost l ∷ rest) (encode r)))
 
-absent-at : (x : ℕ) (bs : List ℕ) (k : ℕ) → any (eqb x) bs ≡ false → k < length bs → get_or bs k 0 ≡ x → ⊥
-absent-at x [] k n h e = omega arith
-absent-at x (b ∷ bs) zero n h e = let z : ◌≡◌ {A = ℕ} 0 1 = cc (rw (eq-eqb x b (sym e)) at n) in omega arith
-absent-at x (b ∷ bs) (suc k) n h e = absent-at x bs k (cases (eqb x b) (λ g. cc (rw g at n)) (λ g. rw g at n)) (omega arith) e
+absent_at : (x : ℕ) (bs : List ℕ) (k : ℕ) → any (eqb x) bs ≡ false → k < length bs → get_or bs k 0 ≡ x → ⊥
+absent_at x [] k n h e = omega arith
+absent_at x (b ∷ bs) zero n h e = let z : ◌≡◌ {A = ℕ} 0 1 = cc (rw (eq-eqb x b (sym e)) at n) in omega arith
+absent_at x (b ∷ bs) (suc k) n h e = absent_at x bs k (cases (eqb x b) (λ g. cc (rw g at n)) (λ g. rw g at n)) (omega arith) e
 
 last-table : (bs : List ℕ) → EndsInTable bs → 0 < length bs → get_or bs (length bs - 1) 0 < 16
 last-table [] e h = absurd (omega arith)
@@ -100,7 +100,7 @@ module _ (own b rest behind : List ℕ) (r x : ℕ) (e : own ≡ b ++ ((replicat
         (λ h. absurd (fh.early (length b + r) (ltb-true (length b + r) j h) (record { table = rw (at_table ∙ sym z) w; holds = rw (at_table ∙ sym z) there.holds })))
         (λ h. ltb-false (length b + r) j h) in
         cases (ltb j (length b))
-        (λ h. let h' : j < length b = ltb-true j (length b) h in absurd (absent-at x b j early h' (sym (at_before j h') ∙ z)))
+        (λ h. let h' : j < length b = ltb-true j (length b) h in absurd (absent_at x b j early h' (sym (at_before j h') ∙ z)))
         (λ h. let h' : length b ≤ j = ltb-false j (length b) h in
         cases (ltb j (length b + r))
         (λ g. let g' : j < length b + r = ltb-true j (length b + r) g in
@@ -129,14 +129,14 @@ module _ (masks own : List ℕ) (key j i : ℕ) (p : Plan) (sp : Spells masks ke
 
   found_early : j < length own
   found_early =
-      let (k, a, g, h) = some_byte (λ t. holdsKey key (get_or masks t 0)) (λ b. ltb b 16) own (ap (λ l. any (λ t. holdsKey key (get_or masks t 0)) l) (ap (filter (λ b. ltb b 16)) sp.is ∙ names-small p (plan-small own 0 p (length own) own-stands)) ∙ sp.holder) in
+      let (k, a, g, h) = some_byte (λ t. holds_key key (get_or masks t 0)) (λ b. ltb b 16) own (ap (λ l. any (λ t. holds_key key (get_or masks t 0)) l) (ap (filter (λ b. ltb b 16)) sp.is ∙ names_small p (plan_small own 0 p (length own) own-stands)) ∙ sp.holder) in
       cases (ltb j (length own)) (λ e. ltb-true j (length own) e)
       (λ e. let e' : length own ≤ j = ltb-false j (length own) e in absurd (fh.early k (omega arith) (record { table = ltb-true (get_or own k 0) 16 g; holds = h })))
 
-  first-is : head_of (candidates masks key own) ≡ get_or own j 0
-  first-is = head-candidate masks key own j fh.early (fh.there found_early) found_early
+  first_is : head_of (candidates masks key own) ≡ get_or own j 0
+  first_is = head_candidate masks key own j fh.early (fh.there found_early) found_early
 
-  first-named : namesTable p (get_or own j 0) ≡ true
+  first-named : names_table p (get_or own j 0) ≡ true
   first-named = found-names own 0 p (length own) (get_or own j 0) j own-stands (fh.there found_early).table zero-le found_early refl
 
   place : Around p (get_or own j 0)
@@ -155,12 +155,12 @@ module _ (masks own : List ℕ) (key j i : ℕ) (p : Plan) (sp : Spells masks ke
   plan-stands : PlanAt own i place.plan (i + length (encode place.plan))
   plan-stands = stands place.plan place.small own place.before place.behind i (i + length (encode place.plan)) parts begins refl
 
-  pub planned-there : Planned own i
-  planned-there = record { plan = place.plan; end = i + length (encode place.plan); stands = plan-stands }
+  pub planned_there : Planned own i
+  planned_there = record { plan = place.plan; end = i + length (encode place.plan); stands = plan-stands }
 
   -- the copies put together
   pub hung-bytes : (c : Plan) (e : ℕ) (hung out : List ℕ) → ((q : Plan) (f : ℕ) → PlanAt own i q f → e ≡ f) → hung ≡ encode c
-      → out ≡ take i own ++ (255 ∷ (take (e - i) (drop i own) ++ (hung ++ drop e own))) → out ≡ encode (hangUnder (head_of (candidates masks key own)) c p)
+      → out ≡ take i own ++ (255 ∷ (take (e - i) (drop i own) ++ (hung ++ drop e own))) → out ≡ encode (hang_under (head_of (candidates masks key own)) c p)
   hung-bytes c e hung out ends h q =
       let b : List ℕ = place.before in
       let m : List ℕ = encode place.plan in
@@ -173,10 +173,10 @@ module _ (masks own : List ℕ) (key j i : ℕ) (p : Plan) (sp : Spells masks ke
       q
       ∙ ap₂ (λ f g. f ++ (255 ∷ g)) front (ap₂ (λ f g. f ++ g) middle (ap₂ (λ f g. f ++ g) h back))
       ∙ sym (place.hung c)
-      ∙ ap (λ x. encode (hangUnder x c p)) (sym first-is)
+      ∙ ap (λ x. encode (hang_under x c p)) (sym first_is)
 
   pub end-inside : (e : ℕ) → ((q : Plan) (f : ℕ) → PlanAt own i q f → e ≡ f) → (i ≤ e) × (e ≤ length own)
-  end-inside e ends = let s = plan-span own i place.plan (i + length (encode place.plan)) plan-stands in omega (arith, ends place.plan (i + length (encode place.plan)) plan-stands)
+  end-inside e ends = let s = plan_span own i place.plan (i + length (encode place.plan)) plan-stands in omega (arith, ends place.plan (i + length (encode place.plan)) plan-stands)
 
 -- ---- the loops
 pub none_more : (masks s : List ℕ) (key j : ℕ) → ((k : ℕ) → k < j → HolderAt masks key s k → ⊥) → (HolderAt masks key s j → ⊥) → (k : ℕ) → k < j + 1 → HolderAt masks key s k → ⊥
@@ -186,8 +186,8 @@ none_more masks s key j f n k h y =
 pub run_more : (s : List ℕ) (j i : ℕ) → ((k : ℕ) → i ≤ k → k < j → get_or s k 0 ≡ 255) → 0 < i → get_or s (i - 1) 0 ≡ 255 → (k : ℕ) → i - 1 ≤ k → k < j → get_or s k 0 ≡ 255
 run_more s j i f h e k a b = cases (eqb k (i - 1)) (λ q. ap (λ n. get_or s n 0) (eqb-true k (i - 1) q) ∙ e) (λ q. let d : (k ≡ i - 1 → ⊥) = eqb-false k (i - 1) q in f k (omega arith) b)
 
-pub copy-none : (source out : List ℕ) (from to : ℕ) → take (to + 0) out ≡ take to out ++ take 0 (drop from source)
-copy-none source out from to = ap (λ n. take n out) (add-zero to) ∙ sym (append-nil (take to out))
+pub copy_none : (source out : List ℕ) (from to : ℕ) → take (to + 0) out ≡ take to out ++ take 0 (drop from source)
+copy_none source out from to = ap (λ n. take n out) (add-zero to) ∙ sym (append-nil (take to out))
 
 -- the four copies and the FF between them
 pub assembled : (own hung out o1 o2 o3 o4 : List ℕ) (i e : ℕ) → i ≤ e → e ≤ length own → length own + length hung + 1 ≤ 31 → length o1 ≡ 31

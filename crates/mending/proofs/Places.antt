@@ -21,16 +21,16 @@ plan-end s at (join l r) e h =
     omega (arith, length-append (encode l) (encode r))
 
 -- it begins and ends within the bytes
-pub plan-span : (s : List ℕ) (at : ℕ) (p : Plan) (e : ℕ) → PlanAt s at p e → (at < e) × (e ≤ length s) × (at < length s)
-plan-span s at (scan t) e h = let a : at < length s = h.0 in let b : e ≡ at + 1 = h.3 in omega arith
-plan-span s at (join l r) e h =
+pub plan_span : (s : List ℕ) (at : ℕ) (p : Plan) (e : ℕ) → PlanAt s at p e → (at < e) × (e ≤ length s) × (at < length s)
+plan_span s at (scan t) e h = let a : at < length s = h.0 in let b : e ≡ at + 1 = h.3 in omega arith
+plan_span s at (join l r) e h =
     let (m, a, b) = h.2 in
-    let x : (at + 1 < m) × (m ≤ length s) × (at + 1 < length s) = plan-span s (at + 1) l m a in
-    let y : (m < e) × (e ≤ length s) × (m < length s) = plan-span s m r e b in
+    let x : (at + 1 < m) × (m ≤ length s) × (at + 1 < length s) = plan_span s (at + 1) l m a in
+    let y : (m < e) × (e ≤ length s) × (m < length s) = plan_span s m r e b in
     omega arith
 
 pub starts : (s : List ℕ) (at : ℕ) → Planned s at → at < length s
-starts s at q = (plan-span s at q.plan q.end q.stands).2
+starts s at q = (plan_span s at q.plan q.end q.stands).2
 
 -- a byte that is not an FF is a table number
 table_of : (s : List ℕ) (at : ℕ) → (get_or s at 0 ≡ 255 → ⊥) → (p : Plan) (e : ℕ) → PlanAt s at p e → get_or s at 0 < 16
@@ -42,27 +42,27 @@ pub no_other : (s : List ℕ) (at : ℕ) → (get_or s at 0 ≡ 255 → ⊥) →
 no_other s at n h q = omega (arith, table_of s at n q.plan q.end q.stands)
 
 -- the left plan of a join
-left-of : (s : List ℕ) (at : ℕ) → get_or s at 0 ≡ 255 → (p : Plan) (e : ℕ) → PlanAt s at p e → Planned s (at + 1)
-left-of s at t (scan x) e h = let a : get_or s at 0 ≡ x = h.1 in let b : x < 16 = h.2 in absurd (omega arith)
-left-of s at t (join l r) e h = let (m, a, b) = h.2 in record { plan = l; end = m; stands = a }
+left_of_lem : (s : List ℕ) (at : ℕ) → get_or s at 0 ≡ 255 → (p : Plan) (e : ℕ) → PlanAt s at p e → Planned s (at + 1)
+left_of_lem s at t (scan x) e h = let a : get_or s at 0 ≡ x = h.1 in let b : x < 16 = h.2 in absurd (omega arith)
+left_of_lem s at t (join l r) e h = let (m, a, b) = h.2 in record { plan = l; end = m; stands = a }
 
 pub left : (s : List ℕ) (at : ℕ) → get_or s at 0 ≡ 255 → Planned s at → Planned s (at + 1)
-left s at t q = left-of s at t q.plan q.end q.stands
+left s at t q = left_of_lem s at t q.plan q.end q.stands
 
 -- the right plan begins where the left one ends, at m
-right_of : (s : List ℕ) (at m : ℕ) → get_or s at 0 ≡ 255 → ((p : Plan) (e : ℕ) → PlanAt s (at + 1) p e → m ≡ e) → (p : Plan) (e : ℕ) → PlanAt s at p e → Planned s m
-right_of s at m t k (scan x) e h = let a : get_or s at 0 ≡ x = h.1 in let b : x < 16 = h.2 in absurd (omega arith)
-right_of s at m t k (join l r) e h = let (n, a, b) = h.2 in record { plan = r; end = e; stands = rw (k l n a) b }
+right_of_lem : (s : List ℕ) (at m : ℕ) → get_or s at 0 ≡ 255 → ((p : Plan) (e : ℕ) → PlanAt s (at + 1) p e → m ≡ e) → (p : Plan) (e : ℕ) → PlanAt s at p e → Planned s m
+right_of_lem s at m t k (scan x) e h = let a : get_or s at 0 ≡ x = h.1 in let b : x < 16 = h.2 in absurd (omega arith)
+right_of_lem s at m t k (join l r) e h = let (n, a, b) = h.2 in record { plan = r; end = e; stands = rw (k l n a) b }
 
 pub right : (s : List ℕ) (at m : ℕ) → get_or s at 0 ≡ 255 → ((p : Plan) (e : ℕ) → PlanAt s (at + 1) p e → m ≡ e) → Planned s at → Planned s m
-right s at m t k q = right_of s at m t k q.plan q.end q.stands
+right s at m t k q = right_of_lem s at m t k q.plan q.end q.stands
 
 -- the left plan's end lies within the bytes
 left_end : (s : List ℕ) (at m : ℕ) → get_or s at 0 ≡ 255 → ((p : Plan) (e : ℕ) → PlanAt s (at + 1) p e → m ≡ e) → (p : Plan) (e : ℕ) → PlanAt s at p e → at + 1 < m
 left_end s at m t k (scan x) e h = let a : get_or s at 0 ≡ x = h.1 in let b : x < 16 = h.2 in absurd (omega arith)
 left_end s at m t k (join l r) e h =
     let (n, a, b) = h.2 in
-    let x : (at + 1 < n) × (n ≤ length s) × (at + 1 < length s) = plan-span s (at + 1) l n a in
+    let x : (at + 1 < n) × (n ≤ length s) × (at + 1 < length s) = plan_span s (at + 1) l n a in
     let y : m ≡ n = k l n a in
     omega arith
 

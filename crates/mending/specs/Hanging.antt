@@ -4,25 +4,25 @@ use Rattle.std.specs.Int.Bits.{bit_and}
 use Rattle.semantics.specs.Lists.{any, filter, head_of}
 use Rattle.semantics.specs.Plans.{Plan, encode, tables}
 use Rattle.theory.specs.Rules.{Small}
-use Rattle.semantics.specs.JoinTrees.{hangUnder}
+use Rattle.semantics.specs.JoinTrees.{hang_under}
 use Rattle.mending.specs.Parts.{MaskWords}
 
 -- a table with that mask holds all attributes of the key
-unfoldable pub holdsKey : ℕ → ℕ → Bool
-holdsKey key mask = eqb (bit_and key mask) key
+unfoldable pub holds_key : ℕ → ℕ → Bool
+holds_key key mask = eqb (bit_and key mask) key
 
 -- the byte is a table that holds the key
-unfoldable pub heldBy : List ℕ → ℕ → ℕ → Bool
-heldBy masks key b = elim (ltb b 16) [ true ↦ holdsKey key (get_or masks b 0) | false ↦ false ]
+unfoldable pub held_by : List ℕ → ℕ → ℕ → Bool
+held_by masks key b = elim (ltb b 16) [ true ↦ holds_key key (get_or masks b 0) | false ↦ false ]
 
 -- the holders among the tables that bytes name
 unfoldable pub candidates : List ℕ → ℕ → List ℕ → List ℕ
-candidates masks key bs = filter (λ t. holdsKey key (get_or masks t 0)) (filter (λ b. ltb b 16) bs)
+candidates masks key bs = filter (λ t. holds_key key (get_or masks t 0)) (filter (λ b. ltb b 16) bs)
 
 -- the byte at k is a table that holds the key
 pub record HolderAt (masks : List ℕ) (key : ℕ) (s : List ℕ) (k : ℕ) : Type 0 where
   pub table : get_or s k 0 < 16
-  pub holds : holdsKey key (get_or masks (get_or s k 0) 0) ≡ true
+  pub holds : holds_key key (get_or masks (get_or s k 0) 0) ≡ true
 
 -- j is the first such index, or the end
 pub record FirstHolder (masks : List ℕ) (key : ℕ) (s : List ℕ) (j : ℕ) : Type 0 where
@@ -40,7 +40,7 @@ pub record RunStart (s : List ℕ) (j i : ℕ) : Type 0 where
 pub record Spells (masks : List ℕ) (key : ℕ) (s : List ℕ) (p : Plan) : Type 0 where
   pub is : s ≡ encode p
   pub small : Small p
-  pub holder : any (λ t. holdsKey key (get_or masks t 0)) (tables p) ≡ true
+  pub holder : any (λ t. holds_key key (get_or masks t 0)) (tables p) ≡ true
 
 pub record Hangable (masks : List ℕ) (key : ℕ) (s : List ℕ) : Type 0 where
   pub plan : Plan
@@ -58,7 +58,7 @@ HangAsked masks key own hung out = MaskWords masks × Hangable masks key own × 
 abbrev pub HungBytes : List ℕ → ℕ → List ℕ → List ℕ → List ℕ → Type 0
 HungBytes masks key own hung out =
     (p c : Plan) → Spells masks key own p → hung ≡ encode c
-    → take (length own + length hung + 1) out ≡ encode (hangUnder (head_of (candidates masks key own)) c p)
+    → take (length own + length hung + 1) out ≡ encode (hang_under (head_of (candidates masks key own)) c p)
 
 abbrev pub TreeHung : List ℕ → ℕ → List ℕ → List ℕ → List ℕ → Type 0
 TreeHung masks key own hung out = (length out ≡ 31) × HungBytes masks key own hung out

@@ -1,7 +1,7 @@
 -- What the functions on the parts of a plan promise.
 use Rattle.std.specs.Prelude.{◌≡◌, Bool, true, false, ◌&&◌, List, ℕ, ◌+◌, ◌*◌, ◌-◌, ◌<◌, ◌≤◌, ◌^◌, length, get_or, ltb}
 use Rattle.semantics.specs.Lists.{any}
-use Rattle.semantics.specs.Files.{hasBit}
+use Rattle.semantics.specs.Files.{has_bit}
 use Rattle.semantics.specs.Plans.{Plan, tables}
 use Rattle.semantics.specs.Shapes.{Shape}
 use Rattle.mending.specs.Places.{PlanAt}
@@ -10,8 +10,8 @@ use Rattle.mending.specs.declared.parts.Side.{Side}
 use Rattle.mending.specs.declared.parts.Split.{Split}
 
 -- the tables by number, of masks and row counts
-unfoldable pub shapeIn : List ℕ → List ℕ → Shape
-shapeIn masks rows = record { rows = λ t. get_or rows t 0; has = λ t a. hasBit (get_or masks t 0) a }
+unfoldable pub shape_in : List ℕ → List ℕ → Shape
+shape_in masks rows = record { rows = λ t. get_or rows t 0; has = λ t a. has_bit (get_or masks t 0) a }
 
 -- the masks are words
 abbrev pub MaskWords : List ℕ → Type 0
@@ -21,7 +21,7 @@ MaskWords masks = (t : ℕ) → get_or masks t 0 < 2 ^ 32
 pub record Parted (masks : List ℕ) (p : Plan) (e : ℕ) (r : Part) : Type 0 where
   pub next : r.next ≡ e
   pub word : r.attributes < 2 ^ 32
-  pub attributes : (a : ℕ) → hasBit r.attributes a ≡ any (λ t. hasBit (get_or masks t 0) a) (tables p)
+  pub attributes : (a : ℕ) → has_bit r.attributes a ≡ any (λ t. has_bit (get_or masks t 0) a) (tables p)
 
 -- the bytes are those of one plan, of 31 at most: answers 7 and 8 leave no more
 pub record Spanned (s : List ℕ) : Type 0 where
@@ -30,12 +30,12 @@ pub record Spanned (s : List ℕ) : Type 0 where
   pub short : length s ≤ 31
 
 -- what the survey has at an index
-abbrev pub partIn : List ℕ → List ℕ → ℕ → Part
-partIn ends sets at = record { attributes = get_or sets at 0; next = get_or ends at 0 }
+abbrev pub part_in : List ℕ → List ℕ → ℕ → Part
+part_in ends sets at = record { attributes = get_or sets at 0; next = get_or ends at 0 }
 
 -- it is what the plan that begins there comes to
 abbrev pub Surveyed : List ℕ → List ℕ → List ℕ → List ℕ → Type 0
-Surveyed s masks ends sets = (at : ℕ) (p : Plan) (e : ℕ) → PlanAt s at p e → Parted masks p e (partIn ends sets at)
+Surveyed s masks ends sets = (at : ℕ) (p : Plan) (e : ℕ) → PlanAt s at p e → Parted masks p e (part_in ends sets at)
 
 -- the size of the plan at an index: how many bytes it has
 abbrev pub size_at : List ℕ → ℕ → ℕ
@@ -52,9 +52,9 @@ pub record JoinIn (s : List ℕ) (at : ℕ) : Type 0 where
   pub rights : PlanAt s middle right end
 
 -- the plan of the right side, or of the left one; of two numbers the one for it
-abbrev pub sidePlan : Bool → Plan → Plan → Plan
-sidePlan true l r = r
-sidePlan false l r = l
+abbrev pub side_plan : Bool → Plan → Plan → Plan
+side_plan true l r = r
+side_plan false l r = l
 
 abbrev pub choose : Bool → ℕ → ℕ → ℕ
 choose true a b = a
@@ -68,7 +68,7 @@ slot_of false at = 2 * at + 1
 -- the key is the mask of the join attributes of l and r
 pub record JoinKey (masks : List ℕ) (l r : Plan) (key : ℕ) : Type 0 where
   pub word : key < 2 ^ 32
-  pub bits : (a : ℕ) → hasBit key a ≡ (any (λ t. hasBit (get_or masks t 0) a) (tables l) && any (λ t. hasBit (get_or masks t 0) a) (tables r))
+  pub bits : (a : ℕ) → has_bit key a ≡ (any (λ t. has_bit (get_or masks t 0) a) (tables l) && any (λ t. has_bit (get_or masks t 0) a) (tables r))
 
 -- the right side, or the left one, of the join of l and r at an index, which ends at e, r beginning at m
 pub record Sided (masks : List ℕ) (at : ℕ) (right : Bool) (l r : Plan) (m e : ℕ) (s : Side) : Type 0 where

@@ -1,6 +1,6 @@
 // A tree hung in bytes: an FF and the hung tree's bytes are put before and behind the plan that begins with the topmost holder.
 ghost use Rattle.std.specs.Prelude.{◌≡◌, ◌+◌, ◌<◌, ◌≤◌, length, ltb};
-ghost use Rattle.mending.specs.Hanging.{heldBy, FirstHolder, RunStart, Copied, HangAsked, TreeHung};
+ghost use Rattle.mending.specs.Hanging.{held_by, FirstHolder, RunStart, Copied, HangAsked, TreeHung};
 
 use crate::parts::part_at;
 
@@ -16,7 +16,7 @@ pub(crate) fn is_table(b: u8) -> bool
 
 // Whether the byte is a table that holds all attributes of the key.
 pub(crate) fn holds(masks: &[u32; 16], key: u32, b: u8) -> bool
-    ensures { result ≡ heldBy masks.now key b }
+    ensures { result ≡ held_by masks.now key b }
 {
     if is_table(b) {
         let t = words::index(b);

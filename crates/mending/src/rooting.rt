@@ -2,7 +2,7 @@
 // side, and that question builds trees again, each of a smaller subplan. A tree is kept as the roots that are chosen in it. A side's root
 // depends on the join and the side alone, so each is searched for once and remembered with what it costs. A root is the index of its byte.
 ghost use Rattle.std.specs.Prelude.{◌≡◌, ◌<◌, ◌≤◌};
-ghost use Rattle.mending.specs.Rooting.{unpicked, betterOf, packed, unpacked, rowsAdded, TreeAsked, TreeBuilt, RootAsked, RootFound};
+ghost use Rattle.mending.specs.Rooting.{unpicked, better_of, packed, unpacked, rows_added, TreeAsked, TreeBuilt, RootAsked, RootFound};
 
 use crate::hanging::holds;
 use crate::parts::{side_of, split_for};
@@ -26,7 +26,7 @@ pub(crate) fn no_pick() -> Candidate
 
 // The cheaper one; of equals the first.
 pub(crate) fn better(pick: Candidate, place: usize, cost: usize) -> Candidate
-    ensures { result ≡ betterOf pick place cost }
+    ensures { result ≡ better_of pick place cost }
 {
     if cost < pick.cost {
         Candidate { place, cost }
@@ -57,7 +57,7 @@ fn unpack(word: usize) -> Candidate
 // "When the root lies right, the row count of the left side's chosen root; else nothing."
 fn rows_added(rows: &[usize; 16], root: u8, right: bool) -> usize
     requires { root < 16 }
-    ensures { result ≡ rowsAdded rows.now right root }
+    ensures { result ≡ rows_added rows.now right root }
 {
     if right {
         0

@@ -9,26 +9,26 @@ use lib.Dec.{eqb}
 use borrow.Author.Tests.{eq-eqb, ne_eqb}
 use lib.Bits.{bit_and, or_lt, and_le_l}
 use Rattle.semantics.specs.Lists.{all, filter}
-use Rattle.semantics.specs.Files.{hasBit}
+use Rattle.semantics.specs.Files.{has_bit}
 use Rattle.semantics.specs.Plans.{Plan, scan, join, leftmost}
-use Rattle.semantics.specs.Shapes.{Shape, attributes, holds, shared, joinAttributes}
+use Rattle.semantics.specs.Shapes.{Shape, attributes, holds, shared, join_attributes}
 use Rattle.theory.specs.Rules.{behaves, WellBehaved}
 use Rattle.theory.proofs.Cases.{and_left, and_right}
 use Rattle.theory.proofs.JoinTrees.{holds-scan}
-use Rattle.words.proofs.Masks.{hasBit-and, union-holds, covers}
+use Rattle.words.proofs.Masks.{has_bit_and, union-holds, covers}
 use Rattle.plans.specs.declared.behaviour.Subplan.{Subplan}
 use Rattle.mending.specs.Places.{PlanAt, Planned}
-use Rattle.plans.specs.Judging.{wellBehaved, behavesBy, joinedOf, Ruled, Judged}
+use Rattle.plans.specs.Judging.{well_behaved, behaves_by, joined_of, Ruled, Judged}
 use Rattle.mending.proofs.Places.{left, right}
 
 -- the two directions of the test
-pub tested-behaved : (S : Shape) (p : Plan) → wellBehaved S p ≡ true → WellBehaved S p
+pub tested-behaved : (S : Shape) (p : Plan) → well_behaved S p ≡ true → WellBehaved S p
 tested-behaved S (scan t) e = tt
 tested-behaved S (join l r) e =
-    let b = and_right (behaves S l r) (wellBehaved S l && wellBehaved S r) e in
-    (and_left (behaves S l r) (wellBehaved S l && wellBehaved S r) e, tested-behaved S l (and_left (wellBehaved S l) (wellBehaved S r) b), tested-behaved S r (and_right (wellBehaved S l) (wellBehaved S r) b))
+    let b = and_right (behaves S l r) (well_behaved S l && well_behaved S r) e in
+    (and_left (behaves S l r) (well_behaved S l && well_behaved S r) e, tested-behaved S l (and_left (well_behaved S l) (well_behaved S r) b), tested-behaved S r (and_right (well_behaved S l) (well_behaved S r) b))
 
-pub behaved-tested : (S : Shape) (p : Plan) → WellBehaved S p → wellBehaved S p ≡ true
+pub behaved-tested : (S : Shape) (p : Plan) → WellBehaved S p → well_behaved S p ≡ true
 behaved-tested S (scan t) w = refl
 behaved-tested S (join l r) w = ap₂ (λ a b. a && b) w.0 (ap₂ (λ a b. a && b) (behaved-tested S l w.1) (behaved-tested S r w.2))
 
@@ -37,17 +37,17 @@ module _ (l r : Subplan) (m n : ℕ) where
   abbrev shared-mask : ℕ
   shared-mask = bit_and l.attributes r.attributes
 
-  pub by_right : bit_and shared-mask (bit_and m n) ≡ shared-mask → l.behaved ≡ true → r.behaved ≡ behavesBy l r m n
-  unfolding behavesBy
-  by_right e h = sym (rw (eq-eqb (bit_and shared-mask (bit_and m n)) shared-mask e, h, behavesBy) refl)
+  pub by_right : bit_and shared-mask (bit_and m n) ≡ shared-mask → l.behaved ≡ true → r.behaved ≡ behaves_by l r m n
+  unfolding behaves_by
+  by_right e h = sym (rw (eq-eqb (bit_and shared-mask (bit_and m n)) shared-mask e, h, behaves_by) refl)
 
-  pub by_left : bit_and shared-mask (bit_and m n) ≡ shared-mask → l.behaved ≡ false → false ≡ behavesBy l r m n
-  unfolding behavesBy
-  by_left e h = sym (rw (eq-eqb (bit_and shared-mask (bit_and m n)) shared-mask e, h, behavesBy) refl)
+  pub by_left : bit_and shared-mask (bit_and m n) ≡ shared-mask → l.behaved ≡ false → false ≡ behaves_by l r m n
+  unfolding behaves_by
+  by_left e h = sym (rw (eq-eqb (bit_and shared-mask (bit_and m n)) shared-mask e, h, behaves_by) refl)
 
-  pub by-masks : (bit_and shared-mask (bit_and m n) ≡ shared-mask → ⊥) → false ≡ behavesBy l r m n
-  unfolding behavesBy
-  by-masks e = sym (rw (ne_eqb (bit_and shared-mask (bit_and m n)) shared-mask e, behavesBy) refl)
+  pub by-masks : (bit_and shared-mask (bit_and m n) ≡ shared-mask → ⊥) → false ≡ behaves_by l r m n
+  unfolding behaves_by
+  by-masks e = sym (rw (ne_eqb (bit_and shared-mask (bit_and m n)) shared-mask e, behaves_by) refl)
 
 -- a single table: not an FF
 pub one_table : (masks s : List ℕ) (at : ℕ) → (get_or s at 0 ≡ 255 → ⊥) → (x : ℕ) → x ≡ get_or s at 0 → (p : Plan) (e : ℕ) → PlanAt s at p e
@@ -61,32 +61,32 @@ one_table masks s at n x q (scan t) e h =
       small = omega arith;
       next = sym h.3;
       rules = λ S m. record {
-        attributes = λ i. ap (λ k. hasBit (get_or masks k 0) i) y ∙ sym (m.bits t i z) ∙ sym (holds-scan S t i);
+        attributes = λ i. ap (λ k. has_bit (get_or masks k 0) i) y ∙ sym (m.bits t i z) ∙ sym (holds-scan S t i);
         word = omega (arith, ap (λ k. get_or masks k 0) y, m.words t z);
         behaved = refl;
       };
     }
 
 -- the two leftmost tables have all join attributes: a test of masks
-module _ (S : Shape) (l r : Plan) (x y m n : ℕ) (hx : (a : ℕ) → hasBit x a ≡ holds S l a) (hy : (a : ℕ) → hasBit y a ≡ holds S r a)
-    (hm : (a : ℕ) → hasBit m a ≡ S.has (leftmost l) a) (hn : (a : ℕ) → hasBit n a ≡ S.has (leftmost r) a) (small : x < 2 ^ 32) where
-  behaves-test : eqb (bit_and (bit_and x y) (bit_and m n)) (bit_and x y) ≡ behaves S l r
-  unfolding behaves joinAttributes shared
-  behaves-test =
+module _ (S : Shape) (l r : Plan) (x y m n : ℕ) (hx : (a : ℕ) → has_bit x a ≡ holds S l a) (hy : (a : ℕ) → has_bit y a ≡ holds S r a)
+    (hm : (a : ℕ) → has_bit m a ≡ S.has (leftmost l) a) (hn : (a : ℕ) → has_bit n a ≡ S.has (leftmost r) a) (small : x < 2 ^ 32) where
+  behaves_test : eqb (bit_and (bit_and x y) (bit_and m n)) (bit_and x y) ≡ behaves S l r
+  unfolding behaves join_attributes shared
+  behaves_test =
       covers (bit_and x y) (bit_and m n) (omega (arith, and_le_l x y))
-      ∙ ap₂ (λ f g. all f (filter g attributes)) (fun_ext (λ a. hasBit-and m n a ∙ ap₂ (λ u v. u && v) (hm a) (hn a))) (fun_ext (λ a. hasBit-and x y a ∙ ap₂ (λ u v. u && v) (hx a) (hy a)))
+      ∙ ap₂ (λ f g. all f (filter g attributes)) (fun_ext (λ a. has_bit_and m n a ∙ ap₂ (λ u v. u && v) (hm a) (hn a))) (fun_ext (λ a. has_bit_and x y a ∙ ap₂ (λ u v. u && v) (hx a) (hy a)))
 
 -- so the test of the code is that of the plan
 behaved-join : (S : Shape) (a b : Plan) (l r : Subplan) (m n : ℕ) → eqb (bit_and (bit_and l.attributes r.attributes) (bit_and m n)) (bit_and l.attributes r.attributes) ≡ behaves S a b
-    → l.behaved ≡ wellBehaved S a → r.behaved ≡ wellBehaved S b → behavesBy l r m n ≡ wellBehaved S (join a b)
-unfolding behavesBy
+    → l.behaved ≡ well_behaved S a → r.behaved ≡ well_behaved S b → behaves_by l r m n ≡ well_behaved S (join a b)
+unfolding behaves_by
 behaved-join S a b l r m n e p q = ap₂ (λ x y. x && y) e (ap₂ (λ x y. x && y) p q)
 
 -- a join: an FF, a left plan and a right plan
-pub two-plans : (masks s : List ℕ) (at : ℕ) → get_or s at 0 ≡ 255 → (l r : Subplan) → ((p : Plan) (e : ℕ) → PlanAt s (at + 1) p e → Judged masks p e l) → ((p : Plan) (e : ℕ) → PlanAt s l.next p e → Judged masks p e r)
-    → (p : Plan) (e : ℕ) → PlanAt s at p e → Judged masks p e (joinedOf l r (get_or masks l.leftmost 0) (get_or masks r.leftmost 0))
-two-plans masks s at q l r f g (scan t) e h = let x : get_or s at 0 ≡ t = h.1 in let y : t < 16 = h.2 in absurd (omega arith)
-two-plans masks s at q l r f g (join a b) e h =
+pub two_plans : (masks s : List ℕ) (at : ℕ) → get_or s at 0 ≡ 255 → (l r : Subplan) → ((p : Plan) (e : ℕ) → PlanAt s (at + 1) p e → Judged masks p e l) → ((p : Plan) (e : ℕ) → PlanAt s l.next p e → Judged masks p e r)
+    → (p : Plan) (e : ℕ) → PlanAt s at p e → Judged masks p e (joined_of l r (get_or masks l.leftmost 0) (get_or masks r.leftmost 0))
+two_plans masks s at q l r f g (scan t) e h = let x : get_or s at 0 ≡ t = h.1 in let y : t < 16 = h.2 in absurd (omega arith)
+two_plans masks s at q l r f g (join a b) e h =
     let (m, u, v) = h.2 in
     let jl : Judged masks a m l = f a m u in
     let jr : Judged masks b e r = g b e (rw jl.next v) in
@@ -102,7 +102,7 @@ two-plans masks s at q l r f g (join a b) e h =
             word = or_lt 32 l.attributes r.attributes ul.word ur.word;
             behaved =
                 behaved-join S a b l r (get_or masks l.leftmost 0) (get_or masks r.leftmost 0)
-                (behaves-test S a b l.attributes r.attributes (get_or masks l.leftmost 0) (get_or masks r.leftmost 0) ul.attributes ur.attributes
+                (behaves_test S a b l.attributes r.attributes (get_or masks l.leftmost 0) (get_or masks r.leftmost 0) ul.attributes ur.attributes
                 (λ i. sym (M.bits l.leftmost i jl.small) ∙ ap (λ t. S.has t i) jl.leftmost)
                 (λ i. sym (M.bits r.leftmost i jr.small) ∙ ap (λ t. S.has t i) jr.leftmost) ul.word)
                 ul.behaved ur.behaved;
@@ -111,8 +111,8 @@ two-plans masks s at q l r f g (join a b) e h =
 
 -- the leftmost tables of both sides of a join are table numbers
 module _ (masks s : List ℕ) (at : ℕ) (q : get_or s at 0 ≡ 255) (l : Subplan) (f : (p : Plan) (e : ℕ) → PlanAt s (at + 1) p e → Judged masks p e l) (w : Planned s at) where
-  pub left-index : l.leftmost < 16
-  left-index = let v = left s at q w in (f v.plan v.end v.stands).small
+  pub left_index : l.leftmost < 16
+  left_index = let v = left s at q w in (f v.plan v.end v.stands).small
 
-  pub right-index : (r : Subplan) → ((p : Plan) (e : ℕ) → PlanAt s l.next p e → Judged masks p e r) → r.leftmost < 16
-  right-index r g = let v = right s at l.next q (λ p e h. (f p e h).next) w in (g v.plan v.end v.stands).small
+  pub right_index : (r : Subplan) → ((p : Plan) (e : ℕ) → PlanAt s l.next p e → Judged masks p e r) → r.leftmost < 16
+  right_index r g = let v = right s at l.next q (λ p e h. (f p e h).next) w in (g v.plan v.end v.stands).small

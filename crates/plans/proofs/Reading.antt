@@ -11,7 +11,7 @@ use borrow.Author.Tests.{eq-eqb, ne_eqb, lt-ltb, le-ltb}
 use Rattle.semantics.specs.Plans.{misplaced}
 use Rattle.plans.specs.declared.spelling.PlanEnd.{PlanEnd}
 use Rattle.plans.specs.declared.spelling.PlanEnd.TheVariants as end
-use Rattle.mending.specs.Lacking.{foundOf}
+use Rattle.mending.specs.Lacking.{found_of}
 use Rattle.plans.specs.Spelling.{continued, PlanRead}
 
 -- a refusal has no end
@@ -32,8 +32,8 @@ module _ (s : List ℕ) (at : ℕ) (h : at < length s) where
     inside = λ i q. let e : at + 1 ≡ i = cc in omega arith;
   }
 
-  pub read-other : 16 ≤ get_or s at 0 → (get_or s at 0 ≡ 255 → ⊥) → PlanRead s at (end.Bad at)
-  read-other t n = stops s at at (λ owed. rw (drop-cons s at 0 h, ne_eqb (get_or s at 0) 255 n, le-ltb (get_or s at 0) 16 t, misplaced))
+  pub read_other : 16 ≤ get_or s at 0 → (get_or s at 0 ≡ 255 → ⊥) → PlanRead s at (end.Bad at)
+  read_other t n = stops s at at (λ owed. rw (drop-cons s at 0 h, ne_eqb (get_or s at 0) 255 n, le-ltb (get_or s at 0) 16 t, misplaced))
 
   module _ (t : get_or s at 0 ≡ 255) (l : PlanEnd) (a : PlanRead s (at + 1) l) where
     -- an FF owes two plans in the place of one
@@ -51,15 +51,15 @@ module _ (s : List ℕ) (at : ℕ) (h : at < length s) where
           inside = b.inside;
         }
 
-    pub read-join-bad : (i : ℕ) → l ≡ end.Bad i → PlanRead s at (end.Bad i)
-    read-join-bad i q = stops s at i (λ owed. owes owed ∙ ap (continued s (suc owed)) q)
+    pub read-join_bad : (i : ℕ) → l ≡ end.Bad i → PlanRead s at (end.Bad i)
+    read-join_bad i q = stops s at i (λ owed. owes owed ∙ ap (continued s (suc owed)) q)
 
 -- the whole: what follows the plan cannot stand there
-pub whole-more : (s : List ℕ) (r : PlanEnd) → PlanRead s 0 r → (i : ℕ) → r ≡ end.End i → i < length s → foundOf (misplaced 1 0 s) ≡ foundOf (some i)
-whole-more s r a i q h = let z : misplaced 0 i (drop i s) ≡ some i = rw (drop-cons s i 0 h) in ap foundOf (a.spells 0 ∙ ap (continued s 0) q ∙ z)
+pub whole_more : (s : List ℕ) (r : PlanEnd) → PlanRead s 0 r → (i : ℕ) → r ≡ end.End i → i < length s → found_of (misplaced 1 0 s) ≡ found_of (some i)
+whole_more s r a i q h = let z : misplaced 0 i (drop i s) ≡ some i = rw (drop-cons s i 0 h) in ap found_of (a.spells 0 ∙ ap (continued s 0) q ∙ z)
 
-pub whole-done : (s : List ℕ) (r : PlanEnd) → PlanRead s 0 r → (i : ℕ) → r ≡ end.End i → length s ≤ i → foundOf (misplaced 1 0 s) ≡ foundOf none
-whole-done s r a i q h = let z : misplaced 0 i (drop i s) ≡ none = rw (drop_of_length-le s {i = i} h) in ap foundOf (a.spells 0 ∙ ap (continued s 0) q ∙ z)
+pub whole_done : (s : List ℕ) (r : PlanEnd) → PlanRead s 0 r → (i : ℕ) → r ≡ end.End i → length s ≤ i → found_of (misplaced 1 0 s) ≡ found_of none
+whole_done s r a i q h = let z : misplaced 0 i (drop i s) ≡ none = rw (drop_of_length-le s {i = i} h) in ap found_of (a.spells 0 ∙ ap (continued s 0) q ∙ z)
 
-pub whole-bad : (s : List ℕ) (r : PlanEnd) → PlanRead s 0 r → (i : ℕ) → r ≡ end.Bad i → foundOf (misplaced 1 0 s) ≡ foundOf (some i)
-whole-bad s r a i q = ap foundOf (a.spells 0 ∙ ap (continued s 0) q)
+pub whole_bad : (s : List ℕ) (r : PlanEnd) → PlanRead s 0 r → (i : ℕ) → r ≡ end.Bad i → found_of (misplaced 1 0 s) ≡ found_of (some i)
+whole_bad s r a i q = ap found_of (a.spells 0 ∙ ap (continued s 0) q)

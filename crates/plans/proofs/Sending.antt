@@ -10,12 +10,12 @@ use lib.ListN.{length, get_or}
 use lib.Dec.{eqb, ltb}
 use borrow.Author.Tests.{eqb-true, eq-eqb, ne_eqb, ltb-true, ltb-false}
 use Rattle.semantics.specs.Lists.{filter, from}
-use Rattle.semantics.specs.Files.{Table, hasBit}
+use Rattle.semantics.specs.Files.{Table, has_bit}
 use Rattle.semantics.specs.Plans.{encode, tables, misplaced, plan_of, misnamed}
-use Rattle.semantics.specs.Shapes.{noTable, shape_of}
+use Rattle.semantics.specs.Shapes.{no_table, shape_of}
 use Rattle.theory.specs.Details.{Once}
 use Rattle.semantics.specs.Mending.{mend, unmendable}
-use Rattle.semantics.specs.Outcome.{refused, admitted, sentVerdict, planVerdict}
+use Rattle.semantics.specs.Outcome.{refused, admitted, sent_verdict, plan_verdict}
 use Rattle.theory.proofs.Cases.{cases}
 use Rattle.theory.proofs.Lists.{sum_one, each_at}
 use Rattle.theory.proofs.Numbers.{length_from}
@@ -23,9 +23,9 @@ use Rattle.theory.proofs.Spelling.{plan-length, spelled_out}
 use Rattle.theory.proofs.Naming.{plan-names, plan-sum}
 use Rattle.theory.proofs.Mending.{sums-once}
 use Rattle.theory.proofs.Rules.{plan-sent}
-use Rattle.mending.specs.Parts.{shapeIn}
+use Rattle.mending.specs.Parts.{shape_in}
 use Rattle.mending.specs.Rooting.{Distinct}
-use Rattle.mending.specs.Lacking.{foundOf}
+use Rattle.mending.specs.Lacking.{found_of}
 use Rattle.mending.specs.Whole.{Sent, Mends}
 use Rattle.mending.specs.declared.lacking.Found.{Found}
 use Rattle.mending.specs.declared.lacking.Found.TheVariants as found
@@ -35,7 +35,7 @@ use Rattle.tables.specs.declared.Catalog.{Catalog}
 use Rattle.tables.proofs.Catalogs.{mask_at, rows_at}
 use Rattle.plans.specs.Admissions.{Tabled, Named, NamedFor}
 use Rattle.plans.specs.Forming.{PlanIn}
-use Rattle.plans.proofs.Admitting.{masks-are, rows_are, spelled-sent}
+use Rattle.plans.proofs.Admitting.{masks_are, rows_are, spelled-sent}
 
 -- ---- 16 tables named once each have a plan of 31 bytes at most
 code-short : (n : ℕ) (code : List ℕ) → n ≤ 16 → misplaced 1 0 code ≡ none → misnamed n [] 0 code ≡ none → length code ≤ 31
@@ -44,54 +44,54 @@ code-short n code w h g =
     omega (arith, plan-length (plan_of code), ap length e, sum_one (tables (plan_of code)), plan-sum (λ t. 1) n code h g, sum_one (from 0 n), length_from 0 n)
 
 -- ---- no table is named by two bytes
-one-there : (t : ℕ) (bs : List ℕ) (i : ℕ) → i < length bs → get_or bs i 0 ≡ t → 1 ≤ length (filter (eqb t) bs)
-one-there t [] i h e = absurd (omega arith)
-one-there t (b ∷ bs) zero h e = rw (eq-eqb t b (sym e)) (omega arith)
-one-there t (b ∷ bs) (suc i) h e =
-    let q = one-there t bs i (omega arith) e in
+one_there : (t : ℕ) (bs : List ℕ) (i : ℕ) → i < length bs → get_or bs i 0 ≡ t → 1 ≤ length (filter (eqb t) bs)
+one_there t [] i h e = absurd (omega arith)
+one_there t (b ∷ bs) zero h e = rw (eq-eqb t b (sym e)) (omega arith)
+one_there t (b ∷ bs) (suc i) h e =
+    let q = one_there t bs i (omega arith) e in
     cases (eqb t b) (λ g. rw g (omega arith)) (λ g. rw g q)
 
-two-there : (t : ℕ) (bs : List ℕ) (i j : ℕ) → i < j → j < length bs → get_or bs i 0 ≡ t → get_or bs j 0 ≡ t → 2 ≤ length (filter (eqb t) bs)
-two-there t [] i j a b e f = absurd (omega arith)
-two-there t (x ∷ bs) i zero a b e f = absurd (omega arith)
-two-there t (x ∷ bs) zero (suc j) a b e f = let q = one-there t bs j (omega arith) f in rw (eq-eqb t x (sym e)) (omega arith)
-two-there t (x ∷ bs) (suc i) (suc j) a b e f =
-    let q = two-there t bs i j (omega arith) (omega arith) e f in
+two_there : (t : ℕ) (bs : List ℕ) (i j : ℕ) → i < j → j < length bs → get_or bs i 0 ≡ t → get_or bs j 0 ≡ t → 2 ≤ length (filter (eqb t) bs)
+two_there t [] i j a b e f = absurd (omega arith)
+two_there t (x ∷ bs) i zero a b e f = absurd (omega arith)
+two_there t (x ∷ bs) zero (suc j) a b e f = let q = one_there t bs j (omega arith) f in rw (eq-eqb t x (sym e)) (omega arith)
+two_there t (x ∷ bs) (suc i) (suc j) a b e f =
+    let q = two_there t bs i j (omega arith) (omega arith) e f in
     cases (eqb t x) (λ g. rw g (omega arith)) (λ g. rw g q)
 
-filter-kept : (q : ℕ → Bool) (t : ℕ) (bs : List ℕ) → q t ≡ true → filter (eqb t) (filter q bs) ≡ filter (eqb t) bs
-filter-kept q t [] h = refl
-filter-kept q t (b ∷ bs) h =
+filter_kept : (q : ℕ → Bool) (t : ℕ) (bs : List ℕ) → q t ≡ true → filter (eqb t) (filter q bs) ≡ filter (eqb t) bs
+filter_kept q t [] h = refl
+filter_kept q t (b ∷ bs) h =
     cases (eqb t b)
-    (λ g. let y : q b ≡ true = rw (eqb-true t b g) at h in rw (y, g) (ap (λ l. b ∷ l) (filter-kept q t bs h)))
-    (λ g. cases (q b) (λ y. rw (y, g) (filter-kept q t bs h)) (λ y. rw (y, g) (filter-kept q t bs h)))
+    (λ g. let y : q b ≡ true = rw (eqb-true t b g) at h in rw (y, g) (ap (λ l. b ∷ l) (filter_kept q t bs h)))
+    (λ g. cases (q b) (λ y. rw (y, g) (filter_kept q t bs h)) (λ y. rw (y, g) (filter_kept q t bs h)))
 
-named-few : (n : ℕ) (code : List ℕ) → misplaced 1 0 code ≡ none → misnamed n [] 0 code ≡ none → (t : ℕ) → t < 16 → length (filter (eqb t) code) ≤ 1
-named-few n code h g t w =
+named_few : (n : ℕ) (code : List ℕ) → misplaced 1 0 code ≡ none → misnamed n [] 0 code ≡ none → (t : ℕ) → t < 16 → length (filter (eqb t) code) ≤ 1
+named_few n code h g t w =
     let o : Once (plan_of code) = sums-once n (plan_of code) (λ f. plan-sum f n code h g) in
-    let e : filter (eqb t) code ≡ filter (eqb t) (tables (plan_of code)) = sym (filter-kept (λ b. not (eqb b 0xFF)) t code (rw (ne_eqb t 0xFF (λ z. omega arith)) refl)) ∙ ap (filter (eqb t)) (plan-names code h) in
+    let e : filter (eqb t) code ≡ filter (eqb t) (tables (plan_of code)) = sym (filter_kept (λ b. not (eqb b 0xFF)) t code (rw (ne_eqb t 0xFF (λ z. omega arith)) refl)) ∙ ap (filter (eqb t)) (plan-names code h) in
     omega (arith, o t, ap length e)
 
 distinct : (n : ℕ) (code : List ℕ) → misplaced 1 0 code ≡ none → misnamed n [] 0 code ≡ none → Distinct code
 distinct n code h g i j a b w e =
-    let few = named-few n code h g (get_or code i 0) w in
+    let few = named_few n code h g (get_or code i 0) w in
     cases (ltb i j)
-    (λ q. absurd (omega (arith, few, two-there (get_or code i 0) code i j (ltb-true i j q) b refl (sym e))))
+    (λ q. absurd (omega (arith, few, two_there (get_or code i 0) code i j (ltb-true i j q) b refl (sym e))))
     (λ q. cases (ltb j i)
-    (λ r. absurd (omega (arith, few, two-there (get_or code i 0) code j i (ltb-true j i r) a (sym e) refl)))
+    (λ r. absurd (omega (arith, few, two_there (get_or code i 0) code j i (ltb-true j i r) a (sym e) refl)))
     (λ r. omega (arith, ltb-false i j q, ltb-false j i r)))
 
 -- ---- the tables of a catalog
 module _ (c : Catalog) (ts : List Table) (h : Tabled c ts) where
-  mask_is : (i : ℕ) → get_or c.masks i 0 ≡ (get_or ts i noTable).mask
-  mask_is i = ap (λ l. get_or l i 0) (masks-are c ts h) ∙ mask_at ts i
+  mask_is : (i : ℕ) → get_or c.masks i 0 ≡ (get_or ts i no_table).mask
+  mask_is i = ap (λ l. get_or l i 0) (masks_are c ts h) ∙ mask_at ts i
 
-  rows_is : (i : ℕ) → get_or c.rows i 0 ≡ (get_or ts i noTable).rows
+  rows_is : (i : ℕ) → get_or c.rows i 0 ≡ (get_or ts i no_table).rows
   rows_is i = ap (λ l. get_or l i 0) (rows_are c ts h) ∙ rows_at ts i
 
-  shape_is : shapeIn c.masks c.rows ≡ shape_of ts
-  unfolding shapeIn shape_of
-  shape_is = ap₂ (λ (f : ℕ → ℕ) g. record { rows = f; has = g }) (fun_ext rows_is) (fun_ext (λ t. fun_ext (λ a. ap (λ k. hasBit k a) (mask_is t))))
+  shape_is : shape_in c.masks c.rows ≡ shape_of ts
+  unfolding shape_in shape_of
+  shape_is = ap₂ (λ (f : ℕ → ℕ) g. record { rows = f; has = g }) (fun_ext rows_is) (fun_ext (λ t. fun_ext (λ a. ap (λ k. has_bit k a) (mask_is t))))
 
   module _ (code : List ℕ) (n : Named code ts) where
     -- what mending rests on
@@ -102,40 +102,40 @@ module _ (c : Catalog) (ts : List Table) (h : Tabled c ts) where
           stands = spelled-stands code n.spelled;
           short = code-short (length ts) code h.few n.spelled n.named;
           distinct = distinct (length ts) code n.spelled n.named;
-          words = λ t. rw (mask_is t) (each_at (λ t. t.mask < 2 ^ 32) ts noTable h.masks (omega arith) t);
-          few = λ t. rw (rows_is t) (each_at (λ t. t.rows ≤ 4096) ts noTable h.rows (omega arith) t);
+          words = λ t. rw (mask_is t) (each_at (λ t. t.mask < 2 ^ 32) ts no_table h.masks (omega arith) t);
+          few = λ t. rw (rows_is t) (each_at (λ t. t.rows ≤ 4096) ts no_table h.rows (omega arith) t);
         }
 
-    module _ (before out : List ℕ) (r : Found) (m : Mends (shapeIn c.masks c.rows) (plan_of code) (length code) before out r) where
-      answer-is : r ≡ foundOf (unmendable (shape_of ts) (plan_of code) 0)
-      answer-is = m.answer ∙ ap (λ S. foundOf (unmendable S (plan_of code) 0)) shape_is
+    module _ (before out : List ℕ) (r : Found) (m : Mends (shape_in c.masks c.rows) (plan_of code) (length code) before out r) where
+      answer_is : r ≡ found_of (unmendable (shape_of ts) (plan_of code) 0)
+      answer_is = m.answer ∙ ap (λ S. found_of (unmendable S (plan_of code) 0)) shape_is
 
       -- answer 9
-      pub mended-refused : (i : ℕ) → r ≡ found.At i → planVerdict ts code ≡ refused 9 i
-      unfolding sentVerdict
+      pub mended-refused : (i : ℕ) → r ≡ found.At i → plan_verdict ts code ≡ refused 9 i
+      unfolding sent_verdict
       mended-refused i e =
           plan-sent ts code (spelled-sent ts code n.spelled)
-          ∙ rw (n.spelled, n.named, found_at (unmendable (shape_of ts) (plan_of code) 0) i (sym answer-is ∙ e), sentVerdict) refl
+          ∙ rw (n.spelled, n.named, found_at (unmendable (shape_of ts) (plan_of code) 0) i (sym answer_is ∙ e), sent_verdict) refl
 
       -- or the mended plan
       module _ (e : r ≡ found.Nothing) where
-        none-9 : unmendable (shape_of ts) (plan_of code) 0 ≡ none
-        none-9 = found_none (unmendable (shape_of ts) (plan_of code) 0) (sym answer-is ∙ e)
+        none_9 : unmendable (shape_of ts) (plan_of code) 0 ≡ none
+        none_9 = found_none (unmendable (shape_of ts) (plan_of code) 0) (sym answer_is ∙ e)
 
-        admitted-is : planVerdict ts code ≡ admitted ts (mend (shape_of ts) (plan_of code))
-        unfolding sentVerdict
-        admitted-is = plan-sent ts code (spelled-sent ts code n.spelled) ∙ rw (n.spelled, n.named, none-9, sentVerdict) refl
+        admitted_is : plan_verdict ts code ≡ admitted ts (mend (shape_of ts) (plan_of code))
+        unfolding sent_verdict
+        admitted_is = plan-sent ts code (spelled-sent ts code n.spelled) ∙ rw (n.spelled, n.named, none_9, sent_verdict) refl
 
-        pub mended-formed : PlanIn ts code (length code) out
-        mended-formed =
+        pub mended_formed : PlanIn ts code (length code) out
+        mended_formed =
             record {
               plan = mend (shape_of ts) (plan_of code);
-              admits = admitted-is;
+              admits = admitted_is;
               fits = sent.short;
               size = m.size;
-              bytes = m.bytes (ap (λ S. unmendable S (plan_of code) 0) shape_is ∙ none-9) ∙ ap (λ S. encode (mend S (plan_of code))) shape_is;
+              bytes = m.bytes (ap (λ S. unmendable S (plan_of code) 0) shape_is ∙ none_9) ∙ ap (λ S. encode (mend S (plan_of code))) shape_is;
             }
 
 -- ---- for the caller, who knows of some tables that they are the catalog's
-pub sent-of : (c : Catalog) (code : List ℕ) → NamedFor code c → Sent code c.masks c.rows
-sent-of c code q = sent c q.ts q.tabled code q.named
+pub sent_of : (c : Catalog) (code : List ℕ) → NamedFor code c → Sent code c.masks c.rows
+sent_of c code q = sent c q.ts q.tabled code q.named

@@ -6,47 +6,47 @@ use native.Mathlib.Omega.{arith}
 use lib.ListN.{length, drop}
 use Rattle.theory.specs.Rules.{Bytes, Fitting}
 use Rattle.semantics.specs.Files.{Table, read}
-use Rattle.semantics.specs.Outcome.{readVerdict, rulesVerdict, scratchVerdict, verdict}
+use Rattle.semantics.specs.Outcome.{read_verdict, rules_verdict, scratch_verdict, verdict}
 use Rattle.theory.proofs.Lists.{Each-map}
-use Rattle.theory.proofs.Reading.{ending-cases, tables-few, tables-fit, tables-masks, plan-last}
+use Rattle.theory.proofs.Reading.{ending-cases, tables_few, tables_fit, tables-masks, plan_last}
 use Rattle.tables.specs.declared.Contents.{Contents}
 use Rattle.tables.specs.declared.End.TheVariants as end
-use Rattle.tables.specs.Catalogs.{catalogOf, end_of, contentsOf}
+use Rattle.tables.specs.Catalogs.{catalog_of, end_of, contents_of}
 use Rattle.plans.specs.declared.admission.Verdict.TheVariants as decision
-use Rattle.scheduling.specs.Schedules.{Schedule, noSchedule}
-use Rattle.plans.specs.Admissions.{Tabled, Catalogued, Decided, decidedPlan, decidedOf}
+use Rattle.scheduling.specs.Schedules.{Schedule, no_schedule}
+use Rattle.plans.specs.Admissions.{Tabled, Catalogued, Decided, decided_plan, decided_of}
 
-module _ (file : List ℕ) (contents : Contents) (was : contents ≡ contentsOf file) where
-  catalog-is : contents.catalog ≡ catalogOf (read file).tables
-  unfolding contentsOf
-  catalog-is = ap (λ x. x.catalog) was
+module _ (file : List ℕ) (contents : Contents) (was : contents ≡ contents_of file) where
+  catalog_is : contents.catalog ≡ catalog_of (read file).tables
+  unfolding contents_of
+  catalog_is = ap (λ x. x.catalog) was
 
   end_is : contents.end ≡ end_of (length file) (read file).ending
-  unfolding contentsOf
+  unfolding contents_of
   end_is = ap (λ x. x.end) was
 
   pub tabled : Bytes file → Tabled contents.catalog (read file).tables
   tabled b =
       record {
-        is = catalog-is;
-        few = tables-few file;
+        is = catalog_is;
+        few = tables_few file;
         masks = tables-masks file b;
-        rows = Each-map (Fitting (length file)) (λ t. t.rows ≤ 4096) (λ t f. f.low) (read file).tables (tables-fit file);
+        rows = Each-map (Fitting (length file)) (λ t. t.rows ≤ 4096) (λ t f. f.low) (read file).tables (tables_fit file);
       }
 
   pub catalogued : Bytes file → Catalogued contents.catalog
   catalogued b = record { ts = (read file).tables; tabled = tabled b }
 
   -- the reading ends in a fault
-  pub file-refused : (n d words : ℕ) → contents.end ≡ end.Fault n d → (free : Schedule) → free ≡ noSchedule → record { verdict = decision.Refused n d; catalog = contents.catalog; schedule = free } ≡ decidedOf file words
-  unfolding decidedOf verdict rulesVerdict readVerdict scratchVerdict
+  pub file-refused : (n d words : ℕ) → contents.end ≡ end.Fault n d → (free : Schedule) → free ≡ no_schedule → record { verdict = decision.Refused n d; catalog = contents.catalog; schedule = free } ≡ decided_of file words
+  unfolding decided_of verdict rules_verdict read_verdict scratch_verdict
   file-refused n d words e free f =
       ending-cases (read file).ending
       (λ m k g.
       let q : end.Fault n d ≡ end.Fault m k = sym e ∙ end_is ∙ ap (end_of (length file)) g in
       let a : n ≡ m = cc in
       let b : d ≡ k = cc in
-      rw (g, readVerdict) (λ i. record { verdict = decision.Refused (a i) (b i); catalog = catalog-is i; schedule = f i }))
+      rw (g, read_verdict) (λ i. record { verdict = decision.Refused (a i) (b i); catalog = catalog_is i; schedule = f i }))
       (λ code g.
       let q : end.Fault n d ≡ end.Plan (length file - length code) = sym e ∙ end_is ∙ ap (end_of (length file)) g in
       let z : ◌≡◌ {A = ℕ} 0 1 = cc in
@@ -59,13 +59,13 @@ module _ (file : List ℕ) (contents : Contents) (was : contents ≡ contentsOf 
       (λ m k g. let q : end.Plan at ≡ end.Fault m k = sym e ∙ end_is ∙ ap (end_of (length file)) g in let z : ◌≡◌ {A = ℕ} 0 1 = cc in absurd (omega arith))
       (λ code g. let q : end.Plan at ≡ end.Plan (length file - length code) = sym e ∙ end_is ∙ ap (end_of (length file)) g in let a : at ≡ length file - length code = cc in omega arith)
 
-  pub file-planned : Bytes file → (at words : ℕ) → contents.end ≡ end.Plan at → (r : Decided) → ((ts : List Table) → Tabled contents.catalog ts → r ≡ decidedPlan ts (drop at file) words) → r ≡ decidedOf file words
-  unfolding decidedOf decidedPlan verdict rulesVerdict readVerdict
-  file-planned b at words e r f =
+  pub file_planned : Bytes file → (at words : ℕ) → contents.end ≡ end.Plan at → (r : Decided) → ((ts : List Table) → Tabled contents.catalog ts → r ≡ decided_plan ts (drop at file) words) → r ≡ decided_of file words
+  unfolding decided_of decided_plan verdict rules_verdict read_verdict
+  file_planned b at words e r f =
       ending-cases (read file).ending
       (λ m k g. let q : end.Plan at ≡ end.Fault m k = sym e ∙ end_is ∙ ap (end_of (length file)) g in let z : ◌≡◌ {A = ℕ} 0 1 = cc in absurd (omega arith))
       (λ code g.
       let q : end.Plan at ≡ end.Plan (length file - length code) = sym e ∙ end_is ∙ ap (end_of (length file)) g in
       let a : at ≡ length file - length code = cc in
-      let c : drop at file ≡ code = ap (λ i. drop i file) a ∙ plan-last file code g in
-      rw (g, readVerdict) (rw c at (f (read file).tables (tabled b))))
+      let c : drop at file ≡ code = ap (λ i. drop i file) a ∙ plan_last file code g in
+      rw (g, read_verdict) (rw c at (f (read file).tables (tabled b))))

@@ -2,7 +2,7 @@
 use Rattle.std.specs.Prelude.{◌≡◌, List, [], ℕ, ◌<◌, ◌≤◌, length, take}
 use Rattle.semantics.specs.Files.{Table}
 use Rattle.semantics.specs.Plans.{Plan, encode}
-use Rattle.semantics.specs.Outcome.{refused, admitted, planVerdict}
+use Rattle.semantics.specs.Outcome.{refused, admitted, plan_verdict}
 use Rattle.tables.specs.declared.Catalog.{Catalog}
 use Rattle.plans.specs.declared.forming.Formed.{Formed}
 use Rattle.plans.specs.declared.forming.Formed.TheVariants as formed
@@ -22,13 +22,13 @@ pub record PlanlessFor (c : Catalog) : Type 0 where
 -- the plan record's verdict is a refusal; or a plan, with whose bytes the buffer begins
 pub record PlanIn (ts : List Table) (code : List ℕ) (n : ℕ) (out : List ℕ) : Type 0 where
   pub plan : Plan
-  pub admits : planVerdict ts code ≡ admitted ts plan
+  pub admits : plan_verdict ts code ≡ admitted ts plan
   pub fits : n ≤ 31
   pub size : length out ≡ 31
   pub bytes : take n out ≡ encode plan
 
 abbrev pub FormedAs : List Table → List ℕ → Formed → List ℕ → Type 0
-FormedAs ts code (formed.Refused n d) out = planVerdict ts code ≡ refused n d
+FormedAs ts code (formed.Refused n d) out = plan_verdict ts code ≡ refused n d
 FormedAs ts code (formed.Plan n) out = PlanIn ts code n out
 
 -- so it is of the catalog's tables: where the plan sent is mended, where one is found, where either is

@@ -2,11 +2,11 @@
 // rest of the join works on. No attribute value is read here.
 ghost use Rattle.std.specs.Prelude.{◌≡◌, List, ◌<◌};
 ghost use Rattle.semantics.specs.Files.{Table};
-ghost use Rattle.plans.specs.Admissions.{Tabled, Catalogued, asksFor, checkOf, Accepted, refusalOf, decidedIn, decidedOf, FollowedBy};
+ghost use Rattle.plans.specs.Admissions.{Tabled, Catalogued, asks_for, check_of, Accepted, refusal_of, decided_in, decided_of, FollowedBy};
 ghost use Rattle.plans.specs.Admissions.{FormedBy, RuledBy};
 ghost use Rattle.plans.specs.Forming.{FormableFor};
 ghost use Rattle.scheduling.specs.Schedules.{Blank};
-ghost use Rattle.tables.specs.Catalogs.{contentsOf};
+ghost use Rattle.tables.specs.Catalogs.{contents_of};
 
 use crate::behaviour::is_well_behaved;
 use crate::forming::{Formed, formed_plan};
@@ -49,7 +49,7 @@ pub struct Ruling {
 
 // A refusal, with nothing scheduled.
 fn refusal(number: u32, detail: usize) -> Ruling
-    ensures { result ≡ refusalOf number detail }
+    ensures { result ≡ refusal_of number detail }
 {
     Ruling {
         verdict: Verdict::Refused(number, detail),
@@ -63,7 +63,7 @@ fn refusal(number: u32, detail: usize) -> Ruling
 
 // Whether the plan's bytes ask for a plan: there are none of them, and there are tables.
 fn asks_for_plan(code: &[u8], count: usize) -> bool
-    ensures { result ≡ asksFor count code.now }
+    ensures { result ≡ asks_for count code.now }
 {
     if code.len() == 0 { 0 < count } else { false }
 }
@@ -71,7 +71,7 @@ fn asks_for_plan(code: &[u8], count: usize) -> bool
 // Answers 7 and 8, in this order, for the plan's bytes and the tables of a file; else whether the plan is followed as it was sent.
 fn check_plan(code: &[u8], catalog: Catalog) -> Check
     requires { Catalogued catalog }
-    ensures { (ts : List Table) → Tabled catalog ts → result ≡ checkOf ts code.now }
+    ensures { (ts : List Table) → Tabled catalog ts → result ≡ check_of ts code.now }
 {
     let count = catalog.count;
     if asks_for_plan(code, count) {
@@ -167,9 +167,9 @@ fn rule(
     keys: &mut [u32; 16],
     lists: &mut [[usize; 16]; 10],
 ) -> Ruling
-    requires { (contents ≡ contentsOf file.now) × Blank keys.old lists.old }
-    ensures { decidedIn result.verdict contents.catalog result.extent keys.new lists.new
-        ≡ decidedOf file.now words }
+    requires { (contents ≡ contents_of file.now) × Blank keys.old lists.old }
+    ensures { decided_in result.verdict contents.catalog result.extent keys.new lists.new
+        ≡ decided_of file.now words }
 {
     let catalog = contents.catalog;
     let end = contents.end;
@@ -188,7 +188,7 @@ pub fn admit(
     lists: &mut [[usize; 16]; 10],
 ) -> Admission
     requires { Blank keys.old lists.old }
-    ensures { decidedIn result.verdict result.catalog result.extent keys.new lists.new ≡ decidedOf file.now words }
+    ensures { decided_in result.verdict result.catalog result.extent keys.new lists.new ≡ decided_of file.now words }
 {
     let contents = tables::read(file);
     let catalog = contents.catalog;

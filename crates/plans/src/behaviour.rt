@@ -3,7 +3,7 @@ ghost use Rattle.std.specs.Prelude.{◌≡◌, ℕ, ◌+◌, length};
 ghost use Rattle.semantics.specs.Plans.{Plan};
 ghost use Rattle.semantics.specs.Shapes.{Shape};
 ghost use Rattle.mending.specs.Places.{PlanAt, Planned};
-ghost use Rattle.plans.specs.Judging.{behavesBy, wellBehaved, Judged};
+ghost use Rattle.plans.specs.Judging.{behaves_by, well_behaved, Judged};
 ghost use Rattle.words.specs.Masks.{Masked};
 
 // A plan inside the plan: the attributes of its tables, its leftmost table, the index behind it, and whether it is well-behaved.
@@ -17,7 +17,7 @@ pub struct Subplan {
 
 // Whether the join of two plans, whose leftmost tables have these masks, is well-behaved with all inside it.
 fn behaves(left: Subplan, right: Subplan, left_mask: u32, right_mask: u32) -> bool
-    ensures { result ≡ behavesBy left right left_mask right_mask }
+    ensures { result ≡ behaves_by left right left_mask right_mask }
 {
     let shared = left.attributes & right.attributes;
     if shared & (left_mask & right_mask) == shared {
@@ -70,7 +70,7 @@ fn judge(code: &[u8], masks: &[u32; 16], at: usize) -> Subplan
 pub(crate) fn is_well_behaved(code: &[u8], masks: &[u32; 16]) -> bool
     requires { Planned code.now 0 }
     ensures { (S : Shape) → Masked masks.now S
-        → (p : Plan) → PlanAt code.now 0 p (length code.now) → result ≡ wellBehaved S p }
+        → (p : Plan) → PlanAt code.now 0 p (length code.now) → result ≡ well_behaved S p }
 {
     let whole = judge(code, masks, 0);
     whole.behaved

@@ -1,14 +1,14 @@
 // Answer 8: each table is named exactly once.
 ghost use Rattle.std.specs.Prelude.{◌≡◌, [], ◌<◌, ◌≤◌};
 ghost use Rattle.semantics.specs.Plans.{misnamed};
-ghost use Rattle.mending.specs.Lacking.{foundOf};
+ghost use Rattle.mending.specs.Lacking.{found_of};
 
 use mending::Found;
 
 // The first byte that names a table that is absent, of that many, or already named; the end where a table is not named.
 pub(crate) fn first_misnamed(code: &[u8], tables: usize) -> Found
     requires { tables ≤ 16 }
-    ensures { result ≡ foundOf (misnamed tables [] 0 code.now) }
+    ensures { result ≡ found_of (misnamed tables [] 0 code.now) }
 {
     let mut named = [false; 16];
     let mut count = 0;

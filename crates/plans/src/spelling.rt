@@ -1,7 +1,7 @@
 // Answer 7: the bytes spell one plan.
 ghost use Rattle.std.specs.Prelude.{◌≡◌, ◌+◌, ◌<◌};
 ghost use Rattle.semantics.specs.Plans.{misplaced};
-ghost use Rattle.mending.specs.Lacking.{foundOf};
+ghost use Rattle.mending.specs.Lacking.{found_of};
 ghost use Rattle.plans.specs.Spelling.{PlanRead};
 
 use mending::Found;
@@ -36,7 +36,7 @@ fn read_plan(code: &[u8], at: usize) -> PlanEnd
 
 // The first byte that cannot stand where it stands, or the end where the plan ends early.
 pub(crate) fn first_misplaced(code: &[u8]) -> Found
-    ensures { result ≡ foundOf (misplaced 1 0 code.now) }
+    ensures { result ≡ found_of (misplaced 1 0 code.now) }
 {
     let end = read_plan(code, 0);
     match end {

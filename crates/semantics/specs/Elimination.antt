@@ -4,7 +4,7 @@ use Rattle.std.proofs.Math.Option.{Option, none, some}
 use Rattle.semantics.specs.Lists.{any, all, filter, first, up_to, head_of}
 use Rattle.semantics.specs.Plans.{Plan, scan}
 use Rattle.semantics.specs.Shapes.{Shape, attributes}
-use Rattle.semantics.specs.JoinTrees.{hangRising}
+use Rattle.semantics.specs.JoinTrees.{hang_rising}
 
 -- ---- which table hangs under which
 -- a table, and the one under which it hangs
@@ -27,16 +27,16 @@ lowest rs = head_of rs
 
 module _ (S : Shape) where
   -- the table t has the attribute, and "some other remaining table has" it, rs remaining
-  unfoldable pub sharedIn : List ℕ → ℕ → ℕ → Bool
-  sharedIn rs t a = S.has t a && any (λ u. S.has u a) (without t rs)
+  unfoldable pub shared_in : List ℕ → ℕ → ℕ → Bool
+  shared_in rs t a = S.has t a && any (λ u. S.has u a) (without t rs)
 
   -- its "shared attributes", rising
-  unfoldable pub sharedAttributes : List ℕ → ℕ → List ℕ
-  sharedAttributes rs t = filter (sharedIn rs t) attributes
+  unfoldable pub shared_attributes : List ℕ → ℕ → List ℕ
+  shared_attributes rs t = filter (shared_in rs t) attributes
 
   -- they "all lie in one other remaining table": "the lowest-numbered such table"
   unfoldable pub parent_of : List ℕ → ℕ → Option ℕ
-  parent_of rs t = let ks = sharedAttributes rs t in first (λ u. all (S.has u) ks) (without t rs)
+  parent_of rs t = let ks = shared_attributes rs t in first (λ u. all (S.has u) ks) (without t rs)
 
   -- "the lowest-numbered table" of ts that can be hung, rs remaining
   abbrev pub next_of : List ℕ → List ℕ → Option Hanging
@@ -44,16 +44,16 @@ module _ (S : Shape) where
   next_of rs (t ∷ ts) = elim (parent_of rs t) [ some u ↦ some (record { child = t; parent = u }) | none ↦ next_of rs ts ]
 
   -- "repeatedly", m tables being still to hang, rs remaining and hs hung; "the last one is the root"
-  abbrev pub hangAll : ℕ → List ℕ → List Hanging → Elimination
-  hangAll zero rs hs = rooted (lowest rs) hs
-  hangAll (suc m) rs hs = elim (next_of rs rs) [ some h ↦ hangAll m (without h.child rs) (h ∷ hs) | none ↦ stuck (lowest rs) ]
+  abbrev pub hang_all : ℕ → List ℕ → List Hanging → Elimination
+  hang_all zero rs hs = rooted (lowest rs) hs
+  hang_all (suc m) rs hs = elim (next_of rs rs) [ some h ↦ hang_all m (without h.child rs) (h ∷ hs) | none ↦ stuck (lowest rs) ]
 
   -- of the tables 0 to n - 1 all but one are to hang
   unfoldable pub eliminate : ℕ → Elimination
-  eliminate n = hangAll (n - 1) (up_to n) []
+  eliminate n = hang_all (n - 1) (up_to n) []
 
 -- ---- the plan
 -- the plan of table t and of what hangs under it. What hangs under a child was hung before the child.
-abbrev pub planUnder : List Hanging → ℕ → Plan
-planUnder [] t = scan t
-planUnder (h ∷ hs) t = elim (eqb t h.parent) [ true ↦ hangRising (planUnder hs h.child) (planUnder hs t) | false ↦ planUnder hs t ]
+abbrev pub plan_under : List Hanging → ℕ → Plan
+plan_under [] t = scan t
+plan_under (h ∷ hs) t = elim (eqb t h.parent) [ true ↦ hang_rising (plan_under hs h.child) (plan_under hs t) | false ↦ plan_under hs t ]

@@ -4,14 +4,14 @@ use Rattle.std.proofs.Math.Option.{Option, none, some}
 
 module _ {A : Type 0} where
   -- a put before l where the test passed
-  abbrev pub consIf : Bool → A → List A → List A
-  consIf true a l = a ∷ l
-  consIf false a l = l
+  abbrev pub cons_if : Bool → A → List A → List A
+  cons_if true a l = a ∷ l
+  cons_if false a l = l
 
   -- the elements that pass the test
   abbrev pub filter : (A → Bool) → List A → List A
   filter p [] = []
-  filter p (x ∷ xs) = consIf (p x) x (filter p xs)
+  filter p (x ∷ xs) = cons_if (p x) x (filter p xs)
 
   abbrev pub all : (A → Bool) → List A → Bool
   all p [] = true
@@ -35,18 +35,18 @@ module _ {A : Type 0} where
   product f (x ∷ xs) = f x * product f xs
 
   -- there is an element
-  abbrev pub nonEmpty : List A → Bool
-  nonEmpty [] = false
-  nonEmpty (x ∷ xs) = true
+  abbrev pub non_empty : List A → Bool
+  non_empty [] = false
+  non_empty (x ∷ xs) = true
 
   -- there are two elements or more
   abbrev pub several : List A → Bool
   several [] = false
-  several (x ∷ xs) = nonEmpty xs
+  several (x ∷ xs) = non_empty xs
 
-abbrev pub concatMap : {A B : Type 0} → (A → List B) → List A → List B
-concatMap f [] = []
-concatMap f (x ∷ xs) = f x ++ concatMap f xs
+abbrev pub concat_map : {A B : Type 0} → (A → List B) → List A → List B
+concat_map f [] = []
+concat_map f (x ∷ xs) = f x ++ concat_map f xs
 
 -- n numbers from i, rising
 abbrev pub from : ℕ → ℕ → List ℕ

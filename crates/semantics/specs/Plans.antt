@@ -37,22 +37,22 @@ misplaced (suc owed) i (b ∷ bs) =
     ]
 
 -- the plans that bytes spell one after the other: an FF joins the first two of those that stand after it
-abbrev pub joinFirst : List Plan → List Plan
-joinFirst [] = []
-joinFirst (l ∷ []) = []
-joinFirst (l ∷ (r ∷ ps)) = join l r ∷ ps
+abbrev pub join_first : List Plan → List Plan
+join_first [] = []
+join_first (l ∷ []) = []
+join_first (l ∷ (r ∷ ps)) = join l r ∷ ps
 
 abbrev pub spelled : List ℕ → List Plan
 spelled [] = []
-spelled (b ∷ bs) = elim (eqb b 0xFF) [ true ↦ joinFirst (spelled bs) | false ↦ scan b ∷ spelled bs ]
+spelled (b ∷ bs) = elim (eqb b 0xFF) [ true ↦ join_first (spelled bs) | false ↦ scan b ∷ spelled bs ]
 
-abbrev pub firstPlan : List Plan → Plan
-firstPlan [] = scan 0
-firstPlan (p ∷ ps) = p
+abbrev pub first_plan : List Plan → Plan
+first_plan [] = scan 0
+first_plan (p ∷ ps) = p
 
 -- the plan that bytes spell, where 7 is not due
 unfoldable pub plan_of : List ℕ → Plan
-plan_of bs = firstPlan (spelled bs)
+plan_of bs = first_plan (spelled bs)
 
 -- Answer 8: the index of the first byte naming a table that is absent (there are n) or already named (those of `named` are);
 -- where there is no such byte and not all n are named, the end's index.

@@ -9,95 +9,95 @@ use lib.ListN.{length, get_or, length-append}
 use lib.Dec.{eqb, lit<}
 use borrow.Author.Tests.{eq-eqb, ne_eqb}
 use lib.Pow.{shl_exact, pow_mono}
-use Rattle.semantics.specs.Files.{Table, bit, hasBit, copyBytes, copyStart}
-use Rattle.semantics.specs.Shapes.{noTable}
-use Rattle.theory.specs.Elements.{Each, oneIf}
+use Rattle.semantics.specs.Files.{Table, bit, has_bit, copy_bytes, copy_start}
+use Rattle.semantics.specs.Shapes.{no_table}
+use Rattle.theory.specs.Elements.{Each, one_if}
 use Rattle.theory.specs.Rules.{Fitting}
 use Rattle.theory.proofs.Cases.{cases}
 use Rattle.words.proofs.Masks.{no-attribute}
-use Rattle.tables.specs.Copies.{countedBits, copiesStart, countsOf}
+use Rattle.tables.specs.Copies.{counted_bits, copies_start, counts_of}
 
 -- ---- one table more
-one-low : (b : Bool) → oneIf b < 2
+one-low : (b : Bool) → one_if b < 2
 one-low true = lit< tt
 one-low false = lit< tt
 
-bits-add : (ts : List Table) (t : Table) → countedBits ts + oneIf t.counted * 2 ^ length ts ≡ countedBits (ts ++ (t ∷ []))
+bits-add : (ts : List Table) (t : Table) → counted_bits ts + one_if t.counted * 2 ^ length ts ≡ counted_bits (ts ++ (t ∷ []))
 bits-add [] t = omega arith
-bits-add (u ∷ ts) t = omega (arith, bits-add ts t, twice (oneIf t.counted) (length ts))
+bits-add (u ∷ ts) t = omega (arith, bits-add ts t, twice (one_if t.counted) (length ts))
   where
     twice : (x n : ℕ) → x * 2 ^ suc n ≡ 2 * (x * 2 ^ n)
     twice x n = ap (λ p. x * p) (pow-suc 2 n) ∙ sym (mul_assoc x (2 ^ n) 2) ∙ mul_comm (x * 2 ^ n) 2
 
-pub bits-more : (ts : List Table) (t : Table) → length ts < 16 → countedBits ts + (oneIf t.counted * 2 ^ length ts) % 18446744073709551616 ≡ countedBits (ts ++ (t ∷ []))
-bits-more ts t h = ap (λ n. countedBits ts + n) (shl_exact {a = oneIf t.counted} 1 (length ts) 64 (one-low t.counted) (omega arith)) ∙ bits-add ts t
+pub bits_more : (ts : List Table) (t : Table) → length ts < 16 → counted_bits ts + (one_if t.counted * 2 ^ length ts) % 18446744073709551616 ≡ counted_bits (ts ++ (t ∷ []))
+bits_more ts t h = ap (λ n. counted_bits ts + n) (shl_exact {a = one_if t.counted} 1 (length ts) 64 (one-low t.counted) (omega arith)) ∙ bits-add ts t
 
-bits-low : (ts : List Table) → countedBits ts < 2 ^ length ts
+bits-low : (ts : List Table) → counted_bits ts < 2 ^ length ts
 bits-low [] = lit< tt
 bits-low (t ∷ ts) = omega (arith, bits-low ts, one-low t.counted, pow-suc 2 (length ts))
 
-pub bits_small : (ts : List Table) (t : Table) → length ts < 16 → countedBits ts + (oneIf t.counted * 2 ^ length ts) % 18446744073709551616 < 18446744073709551616
+pub bits_small : (ts : List Table) (t : Table) → length ts < 16 → counted_bits ts + (one_if t.counted * 2 ^ length ts) % 18446744073709551616 < 18446744073709551616
 bits_small ts t h =
     let n : length (ts ++ (t ∷ [])) ≤ 16 = simp length-append (omega arith) in
-    omega (arith, bits-more ts t h, bits-low (ts ++ (t ∷ [])), low n)
+    omega (arith, bits_more ts t h, bits-low (ts ++ (t ∷ [])), low n)
   where
     low : {n : ℕ} → n ≤ 16 → 2 ^ n ≤ 65536
     low h = pow_mono h
 
 -- ---- the bit of table t
-bit-first : (b : Bool) (m : ℕ) → hasBit (oneIf b + 2 * m) 0 ≡ b
-unfolding hasBit bit
-bit-first true m = let e : (1 + 2 * m) / 1 % 2 ≡ 1 = omega (arith, div-one (1 + 2 * m)) in ap (λ n. eqb n 1) e
-bit-first false m = let e : (0 + 2 * m) / 1 % 2 ≡ 0 = omega (arith, div-one (0 + 2 * m)) in ap (λ n. eqb n 1) e
+bit_first : (b : Bool) (m : ℕ) → has_bit (one_if b + 2 * m) 0 ≡ b
+unfolding has_bit bit
+bit_first true m = let e : (1 + 2 * m) / 1 % 2 ≡ 1 = omega (arith, div-one (1 + 2 * m)) in ap (λ n. eqb n 1) e
+bit_first false m = let e : (0 + 2 * m) / 1 % 2 ≡ 0 = omega (arith, div-one (0 + 2 * m)) in ap (λ n. eqb n 1) e
 
-bit-rest : (b : Bool) (m i : ℕ) → hasBit (oneIf b + 2 * m) (suc i) ≡ hasBit m i
-unfolding hasBit bit
-bit-rest b m i =
-    let half : (oneIf b + 2 * m) / 2 ≡ m = omega (arith, one-low b) in
-    ap (λ n. eqb (n % 2) 1) (up (oneIf b + 2 * m) ∙ ap (λ n. n / 2 ^ i) half)
+bit_rest : (b : Bool) (m i : ℕ) → has_bit (one_if b + 2 * m) (suc i) ≡ has_bit m i
+unfolding has_bit bit
+bit_rest b m i =
+    let half : (one_if b + 2 * m) / 2 ≡ m = omega (arith, one-low b) in
+    ap (λ n. eqb (n % 2) 1) (up (one_if b + 2 * m) ∙ ap (λ n. n / 2 ^ i) half)
   where
     up : (u : ℕ) → u / 2 ^ suc i ≡ u / 2 / 2 ^ i
     up u = rw (div-div-eq-div-mul u 2 (2 ^ i), pow-suc 2 i, mul_comm 2 (2 ^ i))
 
-pub bits_at : (ts : List Table) (i : ℕ) → hasBit (countedBits ts) i ≡ (get_or ts i noTable).counted
+pub bits_at : (ts : List Table) (i : ℕ) → has_bit (counted_bits ts) i ≡ (get_or ts i no_table).counted
 bits_at [] i = no-attribute i
-bits_at (t ∷ ts) zero = bit-first t.counted (countedBits ts)
-bits_at (t ∷ ts) (suc i) = bit-rest t.counted (countedBits ts) i ∙ bits_at ts i
+bits_at (t ∷ ts) zero = bit_first t.counted (counted_bits ts)
+bits_at (t ∷ ts) (suc i) = bit_rest t.counted (counted_bits ts) i ∙ bits_at ts i
 
 -- as the code tests it
-pub bit-set : (c t : ℕ) → c / 2 ^ t % 2 ≡ 1 → hasBit c t ≡ true
-unfolding hasBit bit
+pub bit-set : (c t : ℕ) → c / 2 ^ t % 2 ≡ 1 → has_bit c t ≡ true
+unfolding has_bit bit
 bit-set c t e = eq-eqb (c / 2 ^ t % 2) 1 e
 
-pub bit-clear : (c t : ℕ) → (c / 2 ^ t % 2 ≡ 1 → ⊥) → hasBit c t ≡ false
-unfolding hasBit bit
-bit-clear c t e = ne_eqb (c / 2 ^ t % 2) 1 e
+pub bit_clear : (c t : ℕ) → (c / 2 ^ t % 2 ≡ 1 → ⊥) → has_bit c t ≡ false
+unfolding has_bit bit
+bit_clear c t e = ne_eqb (c / 2 ^ t % 2) 1 e
 
 -- ---- the offset by a set whose bit t is that of the table
-pub start_none : (c t start rows : ℕ) → hasBit c t ≡ false → 0 ≡ copiesStart c t start rows
-unfolding copiesStart
-start_none c t start rows e = rw (e, copiesStart)
+pub start_none : (c t start rows : ℕ) → has_bit c t ≡ false → 0 ≡ copies_start c t start rows
+unfolding copies_start
+start_none c t start rows e = rw (e, copies_start)
 
-pub start-some : (c t start rows : ℕ) → hasBit c t ≡ true → start - 4 * rows ≡ copiesStart c t start rows
-unfolding copiesStart
-start-some c t start rows e = rw (e, copiesStart)
+pub start_some : (c t start rows : ℕ) → has_bit c t ≡ true → start - 4 * rows ≡ copies_start c t start rows
+unfolding copies_start
+start_some c t start rows e = rw (e, copies_start)
 
-own-start : (u : Table) → u.counted ≡ true → u.start - 4 * u.rows ≡ copyStart u
-unfolding copyStart copyBytes
-own-start u f = ap (λ b. u.start - copyBytes b u.rows) (sym f)
+own-start : (u : Table) → u.counted ≡ true → u.start - 4 * u.rows ≡ copy_start u
+unfolding copy_start copy_bytes
+own-start u f = ap (λ b. u.start - copy_bytes b u.rows) (sym f)
 
-pub start-by : (c t : ℕ) (u : Table) → hasBit c t ≡ u.counted → copiesStart c t u.start u.rows ≡ countsOf u
-unfolding countsOf
-start-by c t u e = cases u.counted (λ f. sym (start-some c t u.start u.rows (e ∙ f)) ∙ rw (f, countsOf) (own-start u f)) (λ f. sym (start_none c t u.start u.rows (e ∙ f)) ∙ rw (f, countsOf))
+pub start_by : (c t : ℕ) (u : Table) → has_bit c t ≡ u.counted → copies_start c t u.start u.rows ≡ counts_of u
+unfolding counts_of
+start_by c t u e = cases u.counted (λ f. sym (start_some c t u.start u.rows (e ∙ f)) ∙ rw (f, counts_of) (own-start u f)) (λ f. sym (start_none c t u.start u.rows (e ∙ f)) ∙ rw (f, counts_of))
 
 -- the column of copies of a table that fits stands before its attribute columns
 before_of : {n : ℕ} (u : Table) → Fitting n u → u.counted ≡ true → 4 * u.rows ≤ u.start
-before_of u f e = let b : copyBytes u.counted u.rows ≡ 4 * u.rows = ap (λ b. copyBytes b u.rows) e ∙ bytes u.rows in omega (arith, b, f.behind)
+before_of u f e = let b : copy_bytes u.counted u.rows ≡ 4 * u.rows = ap (λ b. copy_bytes b u.rows) e ∙ bytes u.rows in omega (arith, b, f.behind)
   where
-    bytes : (rows : ℕ) → copyBytes true rows ≡ 4 * rows
-    bytes rows = unfold copyBytes in refl
+    bytes : (rows : ℕ) → copy_bytes true rows ≡ 4 * rows
+    bytes rows = unfold copy_bytes in refl
 
-pub before-each : (n : ℕ) (ts : List Table) → Each (Fitting n) ts → (i : ℕ) → (get_or ts i noTable).counted ≡ true → 4 * (get_or ts i noTable).rows ≤ (get_or ts i noTable).start
-before-each n [] f i e = omega arith
-before-each n (u ∷ ts) f zero e = before_of u f.0 e
-before-each n (u ∷ ts) f (suc i) e = before-each n ts f.1 i e
+pub before_each : (n : ℕ) (ts : List Table) → Each (Fitting n) ts → (i : ℕ) → (get_or ts i no_table).counted ≡ true → 4 * (get_or ts i no_table).rows ≤ (get_or ts i no_table).start
+before_each n [] f i e = omega arith
+before_each n (u ∷ ts) f zero e = before_of u f.0 e
+before_each n (u ∷ ts) f (suc i) e = before_each n ts f.1 i e

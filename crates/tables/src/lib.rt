@@ -1,11 +1,11 @@
 // The records of a file, read one after the other into a catalog: answers 1 to 6 and 19. Only `value` reads an attribute value.
 ghost use Rattle.std.specs.Prelude.{◌≡◌, true, ◌&&◌, not, ◌+◌, ◌*◌, ◌-◌, ◌<◌, ◌≤◌, min, length, drop, get_or, eqb};
-ghost use Rattle.semantics.specs.Files.{word_at, tableWith, columnStart, copyBytes, copiesOut, nextTable, planRecord};
-ghost use Rattle.semantics.specs.Shapes.{outputFits};
+ghost use Rattle.semantics.specs.Files.{word_at, table_with, column_start, copy_bytes, copies_out, next_table, plan_record};
+ghost use Rattle.semantics.specs.Shapes.{output_fits};
 ghost use Rattle.theory.specs.Rules.{Fitting};
-ghost use Rattle.tables.specs.Catalogs.{end_of, table_of, limitedTable, recordOf, contentsOf, fileWidth, AttributesTogether};
-ghost use Rattle.tables.specs.Copies.{copiesStart, CopiesBefore, copiesIn, CopyInside};
-ghost use Rattle.tables.specs.Records.{countedRecord};
+ghost use Rattle.tables.specs.Catalogs.{end_of, table_of, limited_table, record_of, contents_of, file_width, AttributesTogether};
+ghost use Rattle.tables.specs.Copies.{copies_start, CopiesBefore, copies_in, CopyInside};
+ghost use Rattle.tables.specs.Records.{counted_record};
 
 // The tables of a file, in file order: bit t of `counted` says that table t has a column of copies, and `starts` has the offsets of the
 // tables' first attribute columns. The places past the last table are 0.
@@ -71,7 +71,7 @@ fn marked(s: &[u8], at: usize, mark: &[u8; 2]) -> bool
 // The plan record whose mark stands at an offset: 1, then 6.
 fn plan_record(file: &[u8], at: usize) -> End
     requires { at + 2 ≤ length file.now }
-    ensures { result ≡ end_of (length file.now) (planRecord at (drop at file.now)) }
+    ensures { result ≡ end_of (length file.now) (plan_record at (drop at file.now)) }
 {
     let left = file.len() - at;
     if left < 3 {
@@ -90,7 +90,7 @@ fn plan_record(file: &[u8], at: usize) -> End
 // Every row of a column of copies has 1 to 65,535 of them.
 fn copies_fit(column: &[u8], rows: usize) -> bool
     requires { (rows ≤ 4096) × (4 * rows ≤ length column.now) }
-    ensures { result ≡ not (copiesOut true (λ y. word_at column.now (4 * y)) rows) }
+    ensures { result ≡ not (copies_out true (λ y. word_at column.now (4 * y)) rows) }
 {
     let mut row = 0;
     while row < rows {
@@ -106,7 +106,7 @@ fn copies_fit(column: &[u8], rows: usize) -> bool
 // The table with copies whose mark stands at an offset and whose columns are there: copies in range (19).
 fn counted_table(file: &[u8], at: usize, mask: u32, rows: usize, size: usize) -> Record
     requires { (rows ≤ 4096) × (at + (10 + 4 * rows) ≤ length file.now) }
-    ensures { result ≡ table_of at (countedRecord at (drop at file.now) mask rows size) }
+    ensures { result ≡ table_of at (counted_record at (drop at file.now) mask rows size) }
 {
     let first = at + 10;
     if copies_fit(&file[first..], rows) {
@@ -124,7 +124,7 @@ fn counted_table(file: &[u8], at: usize, mask: u32, rows: usize, size: usize) ->
 // The bytes of the column of copies of a table that has that many rows.
 fn copy_bytes(counted: bool, rows: usize) -> usize
     requires { rows ≤ 4096 }
-    ensures { result ≡ copyBytes counted rows }
+    ensures { result ≡ copy_bytes counted rows }
 {
     if counted { 4 * rows } else { 0 }
 }
@@ -132,7 +132,7 @@ fn copy_bytes(counted: bool, rows: usize) -> usize
 // The table record whose mark stands at an offset: both fields there (1), 3, 4, columns there (1), copies in range (19).
 fn table_record(file: &[u8], at: usize, counted: bool) -> Record
     requires { at + 2 ≤ length file.now }
-    ensures { result ≡ table_of at (nextTable counted at (drop at file.now)) }
+    ensures { result ≡ table_of at (next_table counted at (drop at file.now)) }
 {
     let left = file.len() - at;
     if left < 10 {
@@ -166,7 +166,7 @@ fn table_record(file: &[u8], at: usize, counted: bool) -> Record
 // The table record whose mark stands at an offset, after that many tables: 17th (5), then the record's own rules.
 fn limited_table(file: &[u8], at: usize, count: usize, counted: bool) -> Record
     requires { at + 2 ≤ length file.now }
-    ensures { result ≡ limitedTable count counted at (drop at file.now) }
+    ensures { result ≡ limited_table count counted at (drop at file.now) }
 {
     if 16 <= count {
         return Record::Last(End::Fault(5, at));
@@ -177,7 +177,7 @@ fn limited_table(file: &[u8], at: usize, count: usize, counted: bool) -> Record
 // The record at an offset, after that many tables: two bytes left (1), mark (2), and then the record's own rules.
 fn next_record(file: &[u8], at: usize, count: usize) -> Record
     requires { at ≤ length file.now }
-    ensures { result ≡ recordOf count (length file.now) at (drop at file.now) }
+    ensures { result ≡ record_of count (length file.now) at (drop at file.now) }
 {
     if file.len() - at < 2 {
         return Record::Last(End::Fault(1, at));
@@ -196,7 +196,7 @@ fn next_record(file: &[u8], at: usize, count: usize) -> Record
 
 // The tables and the end of a file.
 pub fn read(file: &[u8]) -> Contents
-    ensures { result ≡ contentsOf file.now }
+    ensures { result ≡ contents_of file.now }
 {
     let mut catalog = Catalog {
         counted: 0,
@@ -247,7 +247,7 @@ fn attributes_of(masks: &[u32; 16], count: usize) -> u32
 
 // The number of attributes in all tables of a file together. Where the reading ends at a fault, in those before it.
 pub fn width(file: &[u8]) -> usize
-    ensures { result ≡ fileWidth file.now }
+    ensures { result ≡ file_width file.now }
 {
     let contents = read(file);
     let catalog = contents.catalog;
@@ -265,7 +265,7 @@ fn room(words: usize) -> usize
 // The rows of that many values that an output of that many words fits.
 pub fn rows_fitting(words: usize, width: usize) -> usize
     requires { 0 < width }
-    ensures { result ≡ outputFits width words }
+    ensures { result ≡ output_fits width words }
 {
     room(words) / width
 }
@@ -273,8 +273,8 @@ pub fn rows_fitting(words: usize, width: usize) -> usize
 // The offset of an attribute's column in the file. The product is one of 32 bits: a column lies at most 131,072 bytes behind the
 // start of its table's columns.
 pub fn column_start(file: &[u8], mask: u32, rows: usize, start: usize, attribute: u32) -> usize
-    requires { (attribute < 32) × Fitting (length file.now) (tableWith mask rows start) }
-    ensures { result ≡ columnStart (tableWith mask rows start) attribute }
+    requires { (attribute < 32) × Fitting (length file.now) (table_with mask rows start) }
+    ensures { result ≡ column_start (table_with mask rows start) attribute }
 {
     start + (4 * (words::ones_below(mask, attribute) * (rows as u32))) as usize
 }
@@ -290,7 +290,7 @@ pub fn value(column: &[u8], row: usize) -> u32
 // The offset of the column of copies of table t, whose attribute columns start there; 0 where it has none.
 pub fn copies_at(counted: usize, t: usize, start: usize, rows: usize) -> usize
     requires { (t < 16) × CopiesBefore counted t start rows }
-    ensures { result ≡ copiesStart counted t start rows }
+    ensures { result ≡ copies_start counted t start rows }
 {
     if (counted >> t) % 2 == 1 {
         return start - 4 * rows;
@@ -301,7 +301,7 @@ pub fn copies_at(counted: usize, t: usize, start: usize, rows: usize) -> usize
 // The copies of a row of a table whose column of copies starts at that offset of the file, 0 for a table that has none.
 pub fn copies(file: &[u8], counts: usize, row: usize) -> u32
     requires { CopyInside file.now counts row }
-    ensures { result ≡ copiesIn file.now counts row }
+    ensures { result ≡ copies_in file.now counts row }
 {
     if counts == 0 {
         return 1;

@@ -33,17 +33,17 @@ pub or_right : (a b : Bool) → b ≡ true → (a || b) ≡ true
 or_right true b e = refl
 or_right false b e = e
 
-pub or-false-left : (a b : Bool) → (a || b) ≡ false → a ≡ false
-or-false-left true b e = e
-or-false-left false b e = refl
+pub or-false_left : (a b : Bool) → (a || b) ≡ false → a ≡ false
+or-false_left true b e = e
+or-false_left false b e = refl
 
-pub or-false-right : (a b : Bool) → (a || b) ≡ false → b ≡ false
-or-false-right true b e = cc
-or-false-right false b e = e
+pub or-false_right : (a b : Bool) → (a || b) ≡ false → b ≡ false
+or-false_right true b e = cc
+or-false_right false b e = e
 
-pub not-or : (a b : Bool) → not (a || b) ≡ (not a && not b)
-not-or true b = refl
-not-or false b = refl
+pub not_or : (a b : Bool) → not (a || b) ≡ (not a && not b)
+not_or true b = refl
+not_or false b = refl
 
 pub not-true : (b : Bool) → not b ≡ true → b ≡ false
 not-true true e = cc
@@ -53,9 +53,9 @@ pub not-false : (b : Bool) → not b ≡ false → b ≡ true
 not-false true e = refl
 not-false false e = cc
 
-pub not-and : (a b : Bool) → (a && not b) ≡ false → (not a || b) ≡ true
-not-and true b e = not-false b e
-not-and false b e = refl
+pub not_and : (a b : Bool) → (a && not b) ≡ false → (not a || b) ≡ true
+not_and true b e = not-false b e
+not_and false b e = refl
 
 -- a test does not go both ways
 pub true-false : (b : Bool) → b ≡ true → b ≡ false → ⊥

@@ -8,8 +8,8 @@ use native.Mathlib.Nat.{zero-add, zero-mul, suc-mul, mul_assoc}
 use lib.ListN.{length, get_or, length-append, length-map}
 use lib.Dec.{eqb}
 use borrow.Author.Tests.{eqb-true, eq-eqb, ne_eqb}
-use Rattle.theory.specs.Elements.{oneIf, Each, only_if}
-use Rattle.semantics.specs.Lists.{same, any, all, sum, product, filter, consIf, nonEmpty, several, concatMap}
+use Rattle.theory.specs.Elements.{one_if, Each, only_if}
+use Rattle.semantics.specs.Lists.{same, any, all, sum, product, filter, cons_if, non_empty, several, concat_map}
 use Rattle.theory.proofs.Cases.{cases, true-false}
 
 module _ {A : Type 0} where
@@ -40,10 +40,10 @@ module _ {A : Type 0} where
   each_at P (x ∷ xs) d e z zero = e.0
   each_at P (x ∷ xs) d e z (suc i) = each_at P xs d e.1 z i
 
-  pub getD-each : (P : A → Type 0) (xs : List A) (i : ℕ) (d : A) → i < length xs → Each P xs → P (get_or xs i d)
-  getD-each P [] i d h e = absurd (omega arith)
-  getD-each P (x ∷ xs) zero d h e = e.0
-  getD-each P (x ∷ xs) (suc i) d h e = getD-each P xs i d (omega arith) e.1
+  pub get_d_each : (P : A → Type 0) (xs : List A) (i : ℕ) (d : A) → i < length xs → Each P xs → P (get_or xs i d)
+  get_d_each P [] i d h e = absurd (omega arith)
+  get_d_each P (x ∷ xs) zero d h e = e.0
+  get_d_each P (x ∷ xs) (suc i) d h e = get_d_each P xs i d (omega arith) e.1
 
   pub get_d_map : (f : A → ℕ) (xs : List A) (i : ℕ) (d : A) → i < length xs → get_or (map f xs) i 0 ≡ f (get_or xs i d)
   get_d_map f [] i d h = absurd (omega arith)
@@ -60,32 +60,32 @@ module _ {A : Type 0} where
   filter_passes q (x ∷ xs) = cases (q x) (λ h. rw h (h, filter_passes q xs)) (λ h. rw h (filter_passes q xs))
 
   -- ---- filter
-  pub consIf-append : (b : Bool) (x : A) (xs ys : List A) → consIf b x (xs ++ ys) ≡ consIf b x xs ++ ys
-  consIf-append true x xs ys = refl
-  consIf-append false x xs ys = refl
+  pub cons_if-append : (b : Bool) (x : A) (xs ys : List A) → cons_if b x (xs ++ ys) ≡ cons_if b x xs ++ ys
+  cons_if-append true x xs ys = refl
+  cons_if-append false x xs ys = refl
 
   pub filter-append : (p : A → Bool) (xs ys : List A) → filter p (xs ++ ys) ≡ filter p xs ++ filter p ys
   filter-append p [] ys = refl
-  filter-append p (x ∷ xs) ys = ap (λ l. consIf (p x) x l) (filter-append p xs ys) ∙ consIf-append (p x) x (filter p xs) (filter p ys)
+  filter-append p (x ∷ xs) ys = ap (λ l. cons_if (p x) x l) (filter-append p xs ys) ∙ cons_if-append (p x) x (filter p xs) (filter p ys)
 
   -- the second test after the first
   pub filter-filter : (p q : A → Bool) (xs : List A) → filter (λ x. p x && q x) xs ≡ filter q (filter p xs)
   filter-filter p q [] = refl
-  filter-filter p q (x ∷ xs) = cases (p x) (λ h. rw h (ap (λ l. consIf (q x) x l) (filter-filter p q xs))) (λ h. rw h (filter-filter p q xs))
+  filter-filter p q (x ∷ xs) = cases (p x) (λ h. rw h (ap (λ l. cons_if (q x) x l) (filter-filter p q xs))) (λ h. rw h (filter-filter p q xs))
 
   pub filter-swap : (p q : A → Bool) (xs : List A) → filter p (filter q xs) ≡ filter q (filter p xs)
   filter-swap p q xs = sym (filter-filter q p xs) ∙ simp and_comm (filter-filter p q xs)
 
-  pub filter-each : (p q : A → Bool) (xs : List A) → Each (λ x. p x ≡ q x) xs → filter p xs ≡ filter q xs
-  filter-each p q [] e = refl
-  filter-each p q (x ∷ xs) e = rw (e.0, filter-each p q xs e.1)
+  pub filter_each : (p q : A → Bool) (xs : List A) → Each (λ x. p x ≡ q x) xs → filter p xs ≡ filter q xs
+  filter_each p q [] e = refl
+  filter_each p q (x ∷ xs) e = rw (e.0, filter_each p q xs e.1)
 
   -- a test that goes the same way everywhere
-  pub filter-onlyIf : (p : A → Bool) (b : Bool) (xs : List A) → Each (λ x. p x ≡ b) xs → filter p xs ≡ only_if b xs
-  filter-onlyIf p true [] e = refl
-  filter-onlyIf p false [] e = refl
-  filter-onlyIf p true (x ∷ xs) e = rw (e.0, filter-onlyIf p true xs e.1)
-  filter-onlyIf p false (x ∷ xs) e = rw (e.0, filter-onlyIf p false xs e.1)
+  pub filter-only_if : (p : A → Bool) (b : Bool) (xs : List A) → Each (λ x. p x ≡ b) xs → filter p xs ≡ only_if b xs
+  filter-only_if p true [] e = refl
+  filter-only_if p false [] e = refl
+  filter-only_if p true (x ∷ xs) e = rw (e.0, filter-only_if p true xs e.1)
+  filter-only_if p false (x ∷ xs) e = rw (e.0, filter-only_if p false xs e.1)
 
   pub filter-true : (xs : List A) → filter (λ x. true) xs ≡ xs
   filter-true [] = refl
@@ -104,29 +104,29 @@ module _ {A : Type 0} where
   filter-fewer f g [] e = omega arith
   filter-fewer f g (x ∷ xs) e = more (f x) (g x) refl (λ e. filter-fewer f g xs e) e
     where
-      more : (b c : Bool) → g x ≡ c → (Each (λ x. g x ≡ true) (filter f xs) → length (filter f xs) ≤ length (filter g xs)) → Each (λ x. g x ≡ true) (consIf b x (filter f xs))
-          → length (consIf b x (filter f xs)) ≤ length (consIf c x (filter g xs))
+      more : (b c : Bool) → g x ≡ c → (Each (λ x. g x ≡ true) (filter f xs) → length (filter f xs) ≤ length (filter g xs)) → Each (λ x. g x ≡ true) (cons_if b x (filter f xs))
+          → length (cons_if b x (filter f xs)) ≤ length (cons_if c x (filter g xs))
       more true true q k e = omega (arith, k e.1)
       more true false q k e = absurd (true-false (g x) e.0 q)
       more false true q k e = omega (arith, k e)
       more false false q k e = k e
 
   -- ---- all and any
-  pub all-each : (p q : A → Bool) (xs : List A) → Each (λ x. p x ≡ q x) xs → all p xs ≡ all q xs
-  all-each p q [] e = refl
-  all-each p q (x ∷ xs) e = rw (e.0, all-each p q xs e.1)
+  pub all_each : (p q : A → Bool) (xs : List A) → Each (λ x. p x ≡ q x) xs → all p xs ≡ all q xs
+  all_each p q [] e = refl
+  all_each p q (x ∷ xs) e = rw (e.0, all_each p q xs e.1)
 
   pub all_true : (p : A → Bool) (xs : List A) → all p xs ≡ true → Each (λ x. p x ≡ true) xs
   all_true p [] e = tt
   all_true p (x ∷ xs) e = cases (p x) (λ h. (h, all_true p xs (rw h at e))) (λ h. let z : ◌≡◌ {A = ℕ} 0 1 = cc (rw h at e) in absurd (omega arith))
 
-  pub true-all : (p : A → Bool) (xs : List A) → Each (λ x. p x ≡ true) xs → all p xs ≡ true
-  true-all p [] e = refl
-  true-all p (x ∷ xs) e = rw e.0 (true-all p xs e.1)
+  pub true_all : (p : A → Bool) (xs : List A) → Each (λ x. p x ≡ true) xs → all p xs ≡ true
+  true_all p [] e = refl
+  true_all p (x ∷ xs) e = rw e.0 (true_all p xs e.1)
 
-  pub all-and : (p q : A → Bool) (xs : List A) → all (λ x. p x && q x) xs ≡ (all p xs && all q xs)
-  all-and p q [] = refl
-  all-and p q (x ∷ xs) = cases (p x) (λ h. rw h (cases (q x) (λ g. rw g (all-and p q xs)) (λ g. rw g (sym (and-false (all p xs)))))) (λ h. rw h)
+  pub all_and : (p q : A → Bool) (xs : List A) → all (λ x. p x && q x) xs ≡ (all p xs && all q xs)
+  all_and p q [] = refl
+  all_and p q (x ∷ xs) = cases (p x) (λ h. rw h (cases (q x) (λ g. rw g (all_and p q xs)) (λ g. rw g (sym (and-false (all p xs)))))) (λ h. rw h)
 
   pub all_append : (p : A → Bool) (xs ys : List A) → all p (xs ++ ys) ≡ (all p xs && all p ys)
   all_append p [] ys = refl
@@ -145,18 +145,18 @@ module _ {A : Type 0} where
   any-middle p y [] ys = refl
   any-middle p y (x ∷ xs) ys = cases (p x) (λ h. cases (p y) (λ g. rw (h, g)) (λ g. rw (h, g))) (λ h. rw h (any-middle p y xs ys))
 
-  pub any-each : (p q : A → Bool) (xs : List A) → Each (λ x. p x ≡ q x) xs → any p xs ≡ any q xs
-  any-each p q [] e = refl
-  any-each p q (x ∷ xs) e = rw (e.0, any-each p q xs e.1)
+  pub any_each : (p q : A → Bool) (xs : List A) → Each (λ x. p x ≡ q x) xs → any p xs ≡ any q xs
+  any_each p q [] e = refl
+  any_each p q (x ∷ xs) e = rw (e.0, any_each p q xs e.1)
 
   -- ---- sums
   pub sum-append : (f : A → ℕ) (xs ys : List A) → sum f (xs ++ ys) ≡ sum f xs + sum f ys
   sum-append f [] ys = omega arith
   sum-append f (x ∷ xs) ys = omega (arith, sum-append f xs ys)
 
-  pub sum-each : (f g : A → ℕ) (xs : List A) → Each (λ x. f x ≡ g x) xs → sum f xs ≡ sum g xs
-  sum-each f g [] e = refl
-  sum-each f g (x ∷ xs) e = rw (e.0, sum-each f g xs e.1)
+  pub sum_each : (f g : A → ℕ) (xs : List A) → Each (λ x. f x ≡ g x) xs → sum f xs ≡ sum g xs
+  sum_each f g [] e = refl
+  sum_each f g (x ∷ xs) e = rw (e.0, sum_each f g xs e.1)
 
   pub sum-const : (n : ℕ) (xs : List A) → sum (λ x. n) xs ≡ length xs * n
   sum-const n [] = sym (zero-mul n)
@@ -167,15 +167,15 @@ module _ {A : Type 0} where
   sum_one (x ∷ xs) = omega (arith, sum_one xs)
 
   -- how many pass a test, as a sum
-  pub length-filter-sum : (q : A → Bool) (xs : List A) → length (filter q xs) ≡ sum (λ x. oneIf (q x)) xs
+  pub length-filter-sum : (q : A → Bool) (xs : List A) → length (filter q xs) ≡ sum (λ x. one_if (q x)) xs
   length-filter-sum q [] = refl
   length-filter-sum q (x ∷ xs) = cases (q x) (λ h. rw h (omega (arith, length-filter-sum q xs))) (λ h. rw h (omega (arith, length-filter-sum q xs)))
 
-  pub any_sum : (q : A → Bool) (xs : List A) → any q xs ≡ not (eqb (sum (λ x. oneIf (q x)) xs) 0)
+  pub any_sum : (q : A → Bool) (xs : List A) → any q xs ≡ not (eqb (sum (λ x. one_if (q x)) xs) 0)
   any_sum q [] = refl
   any_sum q (x ∷ xs) =
-      cases (q x) (λ h. rw h (ap not (sym (ne_eqb (1 + sum (λ x. oneIf (q x)) xs) 0 (λ e. omega arith)))))
-      (λ h. rw h (any_sum q xs ∙ ap (λ n. not (eqb n 0)) (sym (zero-add (sum (λ x. oneIf (q x)) xs)))))
+      cases (q x) (λ h. rw h (ap not (sym (ne_eqb (1 + sum (λ x. one_if (q x)) xs) 0 (λ e. omega arith)))))
+      (λ h. rw h (any_sum q xs ∙ ap (λ n. not (eqb n 0)) (sym (zero-add (sum (λ x. one_if (q x)) xs)))))
 
   -- what adds nothing may be left out
   pub sum-filter : (f : A → ℕ) (q : A → Bool) → ((x : A) → q x ≡ false → f x ≡ 0) → (xs : List A) → sum f xs ≡ sum f (filter q xs)
@@ -183,26 +183,26 @@ module _ {A : Type 0} where
   sum-filter f q z (x ∷ xs) = cases (q x) (λ h. rw (h, sum-filter f q z xs)) (λ h. rw h (omega (arith, z x h, sum-filter f q z xs)))
 
   -- ---- empty and not
-  pub nonEmpty-append : (xs ys : List A) → nonEmpty (xs ++ ys) ≡ (nonEmpty xs || nonEmpty ys)
-  nonEmpty-append [] ys = refl
-  nonEmpty-append (x ∷ xs) ys = refl
+  pub non_empty-append : (xs ys : List A) → non_empty (xs ++ ys) ≡ (non_empty xs || non_empty ys)
+  non_empty-append [] ys = refl
+  non_empty-append (x ∷ xs) ys = refl
 
-  pub nonEmpty-filter : (p : A → Bool) (xs : List A) → nonEmpty (filter p xs) ≡ any p xs
-  nonEmpty-filter p [] = refl
-  nonEmpty-filter p (x ∷ xs) = cases (p x) (λ h. rw h) (λ h. rw h (nonEmpty-filter p xs))
+  pub non_empty-filter : (p : A → Bool) (xs : List A) → non_empty (filter p xs) ≡ any p xs
+  non_empty-filter p [] = refl
+  non_empty-filter p (x ∷ xs) = cases (p x) (λ h. rw h) (λ h. rw h (non_empty-filter p xs))
 
-  pub any-const : (b : Bool) (xs : List A) → any (λ x. b) xs ≡ (b && nonEmpty xs)
+  pub any-const : (b : Bool) (xs : List A) → any (λ x. b) xs ≡ (b && non_empty xs)
   any-const true [] = refl
   any-const false [] = refl
   any-const true (x ∷ xs) = refl
   any-const false (x ∷ xs) = any-const false xs
 
-  pub empty-nil : (xs : List A) → nonEmpty xs ≡ false → xs ≡ []
+  pub empty-nil : (xs : List A) → non_empty xs ≡ false → xs ≡ []
   empty-nil [] h = refl
   empty-nil (x ∷ xs) h = cc
 
-  pub nonEmpty-not-nil : (xs : List A) → nonEmpty xs ≡ true → xs ≡ [] → ⊥
-  nonEmpty-not-nil xs h e = let z : ◌≡◌ {A = ℕ} 0 1 = cc (ap nonEmpty e) in omega arith
+  pub non_empty_not-nil : (xs : List A) → non_empty xs ≡ true → xs ≡ [] → ⊥
+  non_empty_not-nil xs h e = let z : ◌≡◌ {A = ℕ} 0 1 = cc (ap non_empty e) in omega arith
 
   pub length-zero : (xs : List A) → length xs ≡ 0 → xs ≡ []
   length-zero [] e = refl
@@ -210,10 +210,10 @@ module _ {A : Type 0} where
 
   -- no element passes
   pub filter_none : (p : A → Bool) (xs : List A) → length (filter p xs) ≡ 0 → any p xs ≡ false
-  filter_none p xs e = sym (nonEmpty-filter p xs) ∙ ap nonEmpty (length-zero (filter p xs) e)
+  filter_none p xs e = sym (non_empty-filter p xs) ∙ ap non_empty (length-zero (filter p xs) e)
 
-  pub none-filtered : (p : A → Bool) (xs : List A) → any p xs ≡ false → length (filter p xs) ≡ 0
-  none-filtered p xs e = ap length (empty-nil (filter p xs) (nonEmpty-filter p xs ∙ e))
+  pub none_filtered : (p : A → Bool) (xs : List A) → any p xs ≡ false → length (filter p xs) ≡ 0
+  none_filtered p xs e = ap length (empty-nil (filter p xs) (non_empty-filter p xs ∙ e))
 
   -- how many pass on both sides of one that passes
   pub length-filter-middle : (p : A → Bool) (y : A) (xs ys : List A) → p y ≡ true → length (filter p (xs ++ (y ∷ ys))) ≡ length (filter p xs) + suc (length (filter p ys))
@@ -253,85 +253,85 @@ module _ {A B : Type 0} where
   sum-map g f [] = refl
   sum-map g f (x ∷ xs) = ap (λ n. g (f x) + n) (sum-map g f xs)
 
-  pub nonEmpty-map : (f : A → B) (xs : List A) → nonEmpty (map f xs) ≡ nonEmpty xs
-  nonEmpty-map f [] = refl
-  nonEmpty-map f (x ∷ xs) = refl
+  pub non_empty-map : (f : A → B) (xs : List A) → non_empty (map f xs) ≡ non_empty xs
+  non_empty-map f [] = refl
+  non_empty-map f (x ∷ xs) = refl
 
-  pub map-onlyIf : (f : A → B) (b : Bool) (xs : List A) → map f (only_if b xs) ≡ only_if b (map f xs)
-  map-onlyIf f true xs = refl
-  map-onlyIf f false xs = refl
+  pub map-only_if : (f : A → B) (b : Bool) (xs : List A) → map f (only_if b xs) ≡ only_if b (map f xs)
+  map-only_if f true xs = refl
+  map-only_if f false xs = refl
 
-  pub map-consIf : (f : A → B) (b : Bool) (x : A) (xs : List A) → map f (consIf b x xs) ≡ consIf b (f x) (map f xs)
-  map-consIf f true x xs = refl
-  map-consIf f false x xs = refl
+  pub map-cons_if : (f : A → B) (b : Bool) (x : A) (xs : List A) → map f (cons_if b x xs) ≡ cons_if b (f x) (map f xs)
+  map-cons_if f true x xs = refl
+  map-cons_if f false x xs = refl
 
   pub map_each : (f g : A → B) (xs : List A) → Each (λ x. f x ≡ g x) xs → map f xs ≡ map g xs
   map_each f g [] e = refl
   map_each f g (x ∷ xs) e = rw (e.0, map_each f g xs e.1)
 
-  -- ---- concatMap
-  pub concatMap-append : (f : A → List B) (xs ys : List A) → concatMap f (xs ++ ys) ≡ concatMap f xs ++ concatMap f ys
-  concatMap-append f [] ys = refl
-  concatMap-append f (x ∷ xs) ys = rw (concatMap-append f xs ys) (sym (append_assoc (f x) (concatMap f xs) (concatMap f ys)))
+  -- ---- concat_map
+  pub concat_map-append : (f : A → List B) (xs ys : List A) → concat_map f (xs ++ ys) ≡ concat_map f xs ++ concat_map f ys
+  concat_map-append f [] ys = refl
+  concat_map-append f (x ∷ xs) ys = rw (concat_map-append f xs ys) (sym (append_assoc (f x) (concat_map f xs) (concat_map f ys)))
 
-  pub concatMap-each : (f g : A → List B) (xs : List A) → Each (λ x. f x ≡ g x) xs → concatMap f xs ≡ concatMap g xs
-  concatMap-each f g [] e = refl
-  concatMap-each f g (x ∷ xs) e = rw (e.0, concatMap-each f g xs e.1)
+  pub concat_map_each : (f g : A → List B) (xs : List A) → Each (λ x. f x ≡ g x) xs → concat_map f xs ≡ concat_map g xs
+  concat_map_each f g [] e = refl
+  concat_map_each f g (x ∷ xs) e = rw (e.0, concat_map_each f g xs e.1)
 
-  pub Each-concatMap : (P : B → Type 0) (f : A → List B) (xs : List A) → Each (λ x. Each P (f x)) xs → Each P (concatMap f xs)
-  Each-concatMap P f [] e = tt
-  Each-concatMap P f (x ∷ xs) e = Each-append P (f x) (concatMap f xs) e.0 (Each-concatMap P f xs e.1)
+  pub Each-concat_map : (P : B → Type 0) (f : A → List B) (xs : List A) → Each (λ x. Each P (f x)) xs → Each P (concat_map f xs)
+  Each-concat_map P f [] e = tt
+  Each-concat_map P f (x ∷ xs) e = Each-append P (f x) (concat_map f xs) e.0 (Each-concat_map P f xs e.1)
 
-  pub Each-unconcat : (P : B → Type 0) (f : A → List B) (xs : List A) → Each P (concatMap f xs) → Each (λ x. Each P (f x)) xs
+  pub Each-unconcat : (P : B → Type 0) (f : A → List B) (xs : List A) → Each P (concat_map f xs) → Each (λ x. Each P (f x)) xs
   Each-unconcat P f [] e = tt
-  Each-unconcat P f (x ∷ xs) e = let (a, b) = Each-split P (f x) (concatMap f xs) e in (a, Each-unconcat P f xs b)
+  Each-unconcat P f (x ∷ xs) e = let (a, b) = Each-split P (f x) (concat_map f xs) e in (a, Each-unconcat P f xs b)
 
-  pub filter-concatMap : (p : B → Bool) (f : A → List B) (xs : List A) → filter p (concatMap f xs) ≡ concatMap (λ x. filter p (f x)) xs
-  filter-concatMap p f [] = refl
-  filter-concatMap p f (x ∷ xs) = filter-append p (f x) (concatMap f xs) ∙ rw (filter-concatMap p f xs)
+  pub filter-concat_map : (p : B → Bool) (f : A → List B) (xs : List A) → filter p (concat_map f xs) ≡ concat_map (λ x. filter p (f x)) xs
+  filter-concat_map p f [] = refl
+  filter-concat_map p f (x ∷ xs) = filter-append p (f x) (concat_map f xs) ∙ rw (filter-concat_map p f xs)
 
   -- a test on the elements moves into what they give
-  pub concatMap-filter : (p : A → Bool) (f : A → List B) (xs : List A) → concatMap f (filter p xs) ≡ concatMap (λ x. only_if (p x) (f x)) xs
-  concatMap-filter p f [] = refl
-  concatMap-filter p f (x ∷ xs) = cases (p x) (λ h. rw (h, concatMap-filter p f xs)) (λ h. rw (h, concatMap-filter p f xs))
+  pub concat_map-filter : (p : A → Bool) (f : A → List B) (xs : List A) → concat_map f (filter p xs) ≡ concat_map (λ x. only_if (p x) (f x)) xs
+  concat_map-filter p f [] = refl
+  concat_map-filter p f (x ∷ xs) = cases (p x) (λ h. rw (h, concat_map-filter p f xs)) (λ h. rw (h, concat_map-filter p f xs))
 
   -- what gives nothing may be left out
-  pub concatMap-skip : (f : A → List B) (q : A → Bool) → ((x : A) → q x ≡ false → f x ≡ []) → (xs : List A) → concatMap f xs ≡ concatMap f (filter q xs)
-  concatMap-skip f q z [] = refl
-  concatMap-skip f q z (x ∷ xs) = cases (q x) (λ h. rw (h, concatMap-skip f q z xs)) (λ h. rw (h, z x h) (concatMap-skip f q z xs))
+  pub concat_map-skip : (f : A → List B) (q : A → Bool) → ((x : A) → q x ≡ false → f x ≡ []) → (xs : List A) → concat_map f xs ≡ concat_map f (filter q xs)
+  concat_map-skip f q z [] = refl
+  concat_map-skip f q z (x ∷ xs) = cases (q x) (λ h. rw (h, concat_map-skip f q z xs)) (λ h. rw (h, z x h) (concat_map-skip f q z xs))
 
-  pub any-concatMap : (p : B → Bool) (f : A → List B) (xs : List A) → any p (concatMap f xs) ≡ any (λ x. any p (f x)) xs
-  any-concatMap p f [] = refl
-  any-concatMap p f (x ∷ xs) = any_append p (f x) (concatMap f xs) ∙ ap (λ b. any p (f x) || b) (any-concatMap p f xs)
+  pub any-concat_map : (p : B → Bool) (f : A → List B) (xs : List A) → any p (concat_map f xs) ≡ any (λ x. any p (f x)) xs
+  any-concat_map p f [] = refl
+  any-concat_map p f (x ∷ xs) = any_append p (f x) (concat_map f xs) ∙ ap (λ b. any p (f x) || b) (any-concat_map p f xs)
 
-  pub sum-concatMap : (g : B → ℕ) (f : A → List B) (xs : List A) → sum g (concatMap f xs) ≡ sum (λ x. sum g (f x)) xs
-  sum-concatMap g f [] = refl
-  sum-concatMap g f (x ∷ xs) = sum-append g (f x) (concatMap f xs) ∙ ap (λ n. sum g (f x) + n) (sum-concatMap g f xs)
+  pub sum-concat_map : (g : B → ℕ) (f : A → List B) (xs : List A) → sum g (concat_map f xs) ≡ sum (λ x. sum g (f x)) xs
+  sum-concat_map g f [] = refl
+  sum-concat_map g f (x ∷ xs) = sum-append g (f x) (concat_map f xs) ∙ ap (λ n. sum g (f x) + n) (sum-concat_map g f xs)
 
-  pub nonEmpty-concatMap : (f : A → List B) (xs : List A) → nonEmpty (concatMap f xs) ≡ any (λ x. nonEmpty (f x)) xs
-  nonEmpty-concatMap f [] = refl
-  nonEmpty-concatMap f (x ∷ xs) = nonEmpty-append (f x) (concatMap f xs) ∙ ap (λ b. nonEmpty (f x) || b) (nonEmpty-concatMap f xs)
+  pub non_empty-concat_map : (f : A → List B) (xs : List A) → non_empty (concat_map f xs) ≡ any (λ x. non_empty (f x)) xs
+  non_empty-concat_map f [] = refl
+  non_empty-concat_map f (x ∷ xs) = non_empty-append (f x) (concat_map f xs) ∙ ap (λ b. non_empty (f x) || b) (non_empty-concat_map f xs)
 
-  pub length-concatMap : (f : A → List B) (xs : List A) → length (concatMap f xs) ≡ sum (λ x. length (f x)) xs
-  length-concatMap f [] = refl
-  length-concatMap f (x ∷ xs) = length-append (f x) (concatMap f xs) ∙ rw (length-concatMap f xs)
+  pub length-concat_map : (f : A → List B) (xs : List A) → length (concat_map f xs) ≡ sum (λ x. length (f x)) xs
+  length-concat_map f [] = refl
+  length-concat_map f (x ∷ xs) = length-append (f x) (concat_map f xs) ∙ rw (length-concat_map f xs)
 
-  pub map-singleton : (f : A → B) (xs : List A) → map f xs ≡ concatMap (λ x. f x ∷ []) xs
+  pub map-singleton : (f : A → B) (xs : List A) → map f xs ≡ concat_map (λ x. f x ∷ []) xs
   map-singleton f [] = refl
   map-singleton f (x ∷ xs) = rw (map-singleton f xs)
 
 module _ {A B C : Type 0} where
-  pub concatMap-concatMap : (g : B → List C) (f : A → List B) (xs : List A) → concatMap g (concatMap f xs) ≡ concatMap (λ x. concatMap g (f x)) xs
-  concatMap-concatMap g f [] = refl
-  concatMap-concatMap g f (x ∷ xs) = concatMap-append g (f x) (concatMap f xs) ∙ rw (concatMap-concatMap g f xs)
+  pub concat_map-concat_map : (g : B → List C) (f : A → List B) (xs : List A) → concat_map g (concat_map f xs) ≡ concat_map (λ x. concat_map g (f x)) xs
+  concat_map-concat_map g f [] = refl
+  concat_map-concat_map g f (x ∷ xs) = concat_map-append g (f x) (concat_map f xs) ∙ rw (concat_map-concat_map g f xs)
 
-  pub concatMap-map : (g : B → List C) (f : A → B) (xs : List A) → concatMap g (map f xs) ≡ concatMap (λ x. g (f x)) xs
-  concatMap-map g f [] = refl
-  concatMap-map g f (x ∷ xs) = rw (concatMap-map g f xs)
+  pub concat_map-map : (g : B → List C) (f : A → B) (xs : List A) → concat_map g (map f xs) ≡ concat_map (λ x. g (f x)) xs
+  concat_map-map g f [] = refl
+  concat_map-map g f (x ∷ xs) = rw (concat_map-map g f xs)
 
-  pub map-concatMap : (g : B → C) (f : A → List B) (xs : List A) → map g (concatMap f xs) ≡ concatMap (λ x. map g (f x)) xs
-  map-concatMap g f [] = refl
-  map-concatMap g f (x ∷ xs) = map-append g (f x) (concatMap f xs) ∙ rw (map-concatMap g f xs)
+  pub map-concat_map : (g : B → C) (f : A → List B) (xs : List A) → map g (concat_map f xs) ≡ concat_map (λ x. map g (f x)) xs
+  map-concat_map g f [] = refl
+  map-concat_map g f (x ∷ xs) = map-append g (f x) (concat_map f xs) ∙ rw (map-concat_map g f xs)
 
 module _ {A : Type 0} where
   pub product-append : (f : A → ℕ) (xs ys : List A) → product f (xs ++ ys) ≡ product f xs * product f ys
@@ -340,13 +340,13 @@ module _ {A : Type 0} where
 
   -- how many pairs pass a test that tests their halves
   pub count-pairs : (p q r : List A → Bool) (cs es : List (List A)) → Each (λ c. Each (λ e. p (c ++ e) ≡ (q c && r e)) es) cs
-      → length (filter p (concatMap (λ c. map (λ e. c ++ e) es) cs)) ≡ length (filter q cs) * length (filter r es)
+      → length (filter p (concat_map (λ c. map (λ e. c ++ e) es) cs)) ≡ length (filter q cs) * length (filter r es)
   count-pairs p q r [] es h = sym (zero-mul (length (filter r es)))
   count-pairs p q r (c ∷ cs) es h =
       let one : length (filter p (map (λ e. c ++ e) es)) ≡ length (filter (λ e. q c && r e) es)
-      = ap length (filter_map p (λ e. c ++ e) es) ∙ length-map (filter (λ e. p (c ++ e)) es) (λ e. c ++ e) ∙ ap length (filter-each (λ e. p (c ++ e)) (λ e. q c && r e) es h.0) in
-      ap length (filter-append p (map (λ e. c ++ e) es) (concatMap (λ c. map (λ e. c ++ e) es) cs))
-      ∙ length-append (filter p (map (λ e. c ++ e) es)) (filter p (concatMap (λ c. map (λ e. c ++ e) es) cs))
+      = ap length (filter_map p (λ e. c ++ e) es) ∙ length-map (filter (λ e. p (c ++ e)) es) (λ e. c ++ e) ∙ ap length (filter_each (λ e. p (c ++ e)) (λ e. q c && r e) es h.0) in
+      ap length (filter-append p (map (λ e. c ++ e) es) (concat_map (λ c. map (λ e. c ++ e) es) cs))
+      ∙ length-append (filter p (map (λ e. c ++ e) es)) (filter p (concat_map (λ c. map (λ e. c ++ e) es) cs))
       ∙ ap₂ (λ a b. a + b) one (count-pairs p q r cs es h.1)
       ∙ cases (q c) (λ g. rw g (omega (arith, suc-mul (length (filter q cs)) (length (filter r es))))) (λ g. rw g (ap (λ n. length n + length (filter q cs) * length (filter r es)) (filter-false es) ∙ omega arith))
 

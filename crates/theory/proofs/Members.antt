@@ -6,7 +6,7 @@ use mathlib.Core.Logic.{◌⊎◌, inl, inr, ⊎_elim}
 use Prim.Native.Nat.{ℕ, zero, suc, ◌<◌}
 use native.Mathlib.Omega.{arith}
 use lib.ListN.{length, get_or}
-use Rattle.semantics.specs.Lists.{filter, concatMap, head_of}
+use Rattle.semantics.specs.Lists.{filter, concat_map, head_of}
 use Rattle.theory.specs.Elements.{Each, In}
 use Rattle.theory.proofs.Cases.{cases}
 
@@ -36,10 +36,10 @@ module _ {A : Type 0} where
   in-append z (x ∷ xs) ys (inr i) = ⊎_elim (λ j. inl (inr j)) (λ j. inr j) (in-append z xs ys i)
 
   -- at a place of the list
-  pub in-at : (xs : List A) (d : A) (n : ℕ) → n < length xs → In (get_or xs n d) xs
-  in-at [] d n h = absurd (omega arith)
-  in-at (x ∷ xs) d zero h = inl refl
-  in-at (x ∷ xs) d (suc n) h = inr (in-at xs d n (omega arith))
+  pub in_at : (xs : List A) (d : A) (n : ℕ) → n < length xs → In (get_or xs n d) xs
+  in_at [] d n h = absurd (omega arith)
+  in_at (x ∷ xs) d zero h = inl refl
+  in_at (x ∷ xs) d (suc n) h = inr (in_at xs d n (omega arith))
 
 module _ {A B : Type 0} where
   pub in_map : (f : A → B) (v : B) (xs : List A) → In v (map f xs) → (x : A) × In x xs × (f x ≡ v)
@@ -47,10 +47,10 @@ module _ {A B : Type 0} where
   in_map f v (x ∷ xs) (inl e) = (x, inl refl, e)
   in_map f v (x ∷ xs) (inr i) = let (y, j, e) = in_map f v xs i in (y, inr j, e)
 
-  pub in-concatMap : (f : A → List B) (v : B) (xs : List A) → In v (concatMap f xs) → (x : A) × In x xs × In v (f x)
-  in-concatMap f v [] i = absurd i
-  in-concatMap f v (x ∷ xs) i =
-      ⊎_elim (λ j. (x, inl refl, j)) (λ j. let (y, k, l) = in-concatMap f v xs j in (y, inr k, l)) (in-append v (f x) (concatMap f xs) i)
+  pub in-concat_map : (f : A → List B) (v : B) (xs : List A) → In v (concat_map f xs) → (x : A) × In x xs × In v (f x)
+  in-concat_map f v [] i = absurd i
+  in-concat_map f v (x ∷ xs) i =
+      ⊎_elim (λ j. (x, inl refl, j)) (λ j. let (y, k, l) = in-concat_map f v xs j in (y, inr k, l)) (in-append v (f x) (concat_map f xs) i)
 
 pub head_in : (zs : List ℕ) → (zs ≡ [] → ⊥) → In (head_of zs) zs
 head_in [] n = absurd (n refl)

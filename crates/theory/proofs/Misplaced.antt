@@ -24,13 +24,13 @@ misplaced-range (suc o) i (b ∷ bs) k e =
     (λ g. let z : i ≡ k = cc (rw (h, g, misplaced) at e) in omega arith))
 
 -- whatever stands behind the first index that goes wrong, it stays that
-misplaced-kept : (o i j : ℕ) (bs rest : List ℕ) (k : ℕ) → misplaced o i bs ≡ some k → k < i + j → k < i + length bs → misplaced o i (take j bs ++ rest) ≡ some k
-misplaced-kept o i zero bs rest k e h g = absurd (omega (arith, misplaced-range o i bs k e))
-misplaced-kept o i (suc j) [] rest k e h g = absurd (omega (arith, misplaced-range o i [] k e))
-misplaced-kept zero i (suc j) (b ∷ bs) rest k e h g = e
-misplaced-kept (suc o) i (suc j) (b ∷ bs) rest k e h g =
-    cases (eqb b 255) (λ x. rw (x, misplaced) (misplaced-kept (suc (suc o)) (suc i) j bs rest k (rw (x, misplaced) at e) (omega arith) (omega arith)))
-    (λ x. cases (ltb b 16) (λ y. rw (x, y, misplaced) (misplaced-kept o (suc i) j bs rest k (rw (x, y, misplaced) at e) (omega arith) (omega arith)))
+misplaced_kept : (o i j : ℕ) (bs rest : List ℕ) (k : ℕ) → misplaced o i bs ≡ some k → k < i + j → k < i + length bs → misplaced o i (take j bs ++ rest) ≡ some k
+misplaced_kept o i zero bs rest k e h g = absurd (omega (arith, misplaced-range o i bs k e))
+misplaced_kept o i (suc j) [] rest k e h g = absurd (omega (arith, misplaced-range o i [] k e))
+misplaced_kept zero i (suc j) (b ∷ bs) rest k e h g = e
+misplaced_kept (suc o) i (suc j) (b ∷ bs) rest k e h g =
+    cases (eqb b 255) (λ x. rw (x, misplaced) (misplaced_kept (suc (suc o)) (suc i) j bs rest k (rw (x, misplaced) at e) (omega arith) (omega arith)))
+    (λ x. cases (ltb b 16) (λ y. rw (x, y, misplaced) (misplaced_kept o (suc i) j bs rest k (rw (x, y, misplaced) at e) (omega arith) (omega arith)))
     (λ y. rw (x, y, misplaced) (rw (x, y, misplaced) at e)))
 
 -- table 0 for each plan that is owed
@@ -54,14 +54,14 @@ encode-spelled : (p : Plan) → Small p → misplaced 1 0 (encode p) ≡ none
 encode-spelled p h = ap (misplaced 1 0) (sym (append-nil (encode p))) ∙ misplaced-encode p h 0 0 []
 
 -- 7 is not due exactly if the bytes spell one plan
-pub spelled-exactly : (bs : List ℕ) → (misplaced 1 0 bs ≡ none) ↔ SpellsPlan bs
-spelled-exactly bs = (
+pub spelled_exactly : (bs : List ℕ) → (misplaced 1 0 bs ≡ none) ↔ SpellsPlan bs
+spelled_exactly bs = (
   λ e. let (s, c) = spelled_out bs e in record { plan = plan_of bs; small = s; is = c },
   λ s. rw (← s.is) (encode-spelled s.plan s.small),
 )
 
-misplaced-first : (bs : List ℕ) (i : ℕ) → misplaced 1 0 bs ≡ some i → FirstMisplaced bs i
-misplaced-first bs i e =
+misplaced_first : (bs : List ℕ) (i : ℕ) → misplaced 1 0 bs ≡ some i → FirstMisplaced bs i
+misplaced_first bs i e =
     record {
       within = omega (arith, misplaced-range 1 0 bs i e);
       before = λ j h.
@@ -69,10 +69,10 @@ misplaced-first bs i e =
           let (s, c) = spelled_out (take j bs ++ replicate z 0) q in
           record { plan = plan_of (take j bs ++ replicate z 0); rest = replicate z 0; small = s; is = c };
       wrong = λ h b.
-          let q : misplaced 1 0 (encode b.plan) ≡ some i = rw b.is (misplaced-kept 1 0 (suc i) bs b.rest i e (omega arith) (omega arith)) in
+          let q : misplaced 1 0 (encode b.plan) ≡ some i = rw b.is (misplaced_kept 1 0 (suc i) bs b.rest i e (omega arith) (omega arith)) in
           let z : ◌≡◌ {A = ℕ} 0 1 = cc (encode-spelled b.plan b.small) in
           omega arith;
-      early = λ h s. let q : misplaced 1 0 bs ≡ none = (spelled-exactly bs).1 s in let z : ◌≡◌ {A = ℕ} 0 1 = cc in omega arith;
+      early = λ h s. let q : misplaced 1 0 bs ≡ none = (spelled_exactly bs).1 s in let z : ◌≡◌ {A = ℕ} 0 1 = cc in omega arith;
     }
 
 misplaced-once : (bs : List ℕ) (i k : ℕ) → FirstMisplaced bs i → FirstMisplaced bs k → i ≡ k
@@ -84,11 +84,11 @@ misplaced-once bs i k f g =
 -- 7's detail is the index of the first byte that cannot stand there, or n where the plan ends early
 pub first-misplaced : (bs : List ℕ) (i : ℕ) → (misplaced 1 0 bs ≡ some i) ↔ FirstMisplaced bs i
 first-misplaced bs i = (
-  misplaced-first bs i,
+  misplaced_first bs i,
   λ f. option_cases (misplaced 1 0 bs)
-      (λ e. let s = (spelled-exactly bs).0 e in absurd (
+      (λ e. let s = (spelled_exactly bs).0 e in absurd (
       cases (ltb i (length bs))
       (λ h. f.wrong (ltb-true i (length bs) h) (record { plan = s.plan; rest = drop (suc i) bs; small = s.small; is = s.is ∙ sym (take-append-drop (suc i) bs) }))
       (λ h. f.early (omega (arith, f.within, ltb-false i (length bs) h)) s)))
-      (λ k e. e ∙ ap some (misplaced-once bs k i (misplaced-first bs k e) f)),
+      (λ k e. e ∙ ap some (misplaced-once bs k i (misplaced_first bs k e) f)),
 )

@@ -9,14 +9,14 @@ use native.Mathlib.Omega.{arith}
 use lib.ListN.{length}
 use lib.Dec.{eqb, ltb}
 use borrow.Author.Tests.{eqb-true, eqb-false, eq-eqb, ne_eqb, ltb-true}
-use Rattle.theory.specs.Elements.{oneIf, Each}
+use Rattle.theory.specs.Elements.{one_if, Each}
 use Rattle.semantics.specs.Lists.{any, sum, filter, from}
 use Rattle.semantics.specs.Plans.{Plan, scan, join, encode, tables, misplaced, plan_of, misnamed}
 use Rattle.theory.specs.Rules.{Small, NamedOnce}
 use Rattle.theory.specs.Details.{names}
-use Rattle.theory.proofs.Cases.{cases, and_left, and_right, not-or}
+use Rattle.theory.proofs.Cases.{cases, and_left, and_right, not_or}
 use Rattle.theory.proofs.Lists.{filter-append, filter-true, length-filter-sum, any_sum, sum_one, length-zero}
-use Rattle.theory.proofs.Numbers.{length_from, sum-from-one}
+use Rattle.theory.proofs.Numbers.{length_from, sum_from_one}
 use Rattle.theory.proofs.Spelling.{spelled_out}
 
 -- what is not yet named of the numbers from i
@@ -66,7 +66,7 @@ apart_none n f = rw (filter-true (from 0 n)) (omega arith)
 
 pub apart_more : (n t : ℕ) (named : List ℕ) → t < n → unnamed named t ≡ true → Apart n named → Apart n (t ∷ named)
 apart_more n t named h u a f =
-    rw (fun_ext (λ y. not-or (eqb y t) (any (eqb y) named))) (omega (arith, a f, take_out f (unnamed named) t 0 n zero-le (omega arith) u))
+    rw (fun_ext (λ y. not_or (eqb y t) (any (eqb y) named))) (omega (arith, a f, take_out f (unnamed named) t 0 n zero-le (omega arith) u))
 
 final-apart : (n : ℕ) (named ts : List ℕ) → Naming n named ts → Apart n named → Apart n (final named ts)
 final-apart n named [] m a = a
@@ -79,12 +79,12 @@ naming-sum f n ts m =
     = omega (arith, all (λ x. 1), sum_one (final [] ts), sum_one (filter (unnamed (final [] ts)) (from 0 n)), sum_one (from 0 n), length_from 0 n, final-length n [] ts m) in
     omega (arith, final-sum f [] ts, all f, ap (sum f) (length-zero (filter (unnamed (final [] ts)) (from 0 n)) rest))
 
-misnamed-naming : (n : ℕ) (named : List ℕ) (i : ℕ) (bs : List ℕ) → misnamed n named i bs ≡ none → Naming n named (names bs)
-misnamed-naming n named i [] e = cases (eqb (length named) n) (λ h. eqb-true (length named) n h) (λ h. let z : ◌≡◌ {A = ℕ} 0 1 = cc (rw (h, misnamed) at e) in omega arith)
-misnamed-naming n named i (b ∷ bs) e =
-    cases (eqb b 255) (λ h. rw h (misnamed-naming n named (suc i) bs (rw (h, misnamed) at e)))
+misnamed_naming : (n : ℕ) (named : List ℕ) (i : ℕ) (bs : List ℕ) → misnamed n named i bs ≡ none → Naming n named (names bs)
+misnamed_naming n named i [] e = cases (eqb (length named) n) (λ h. eqb-true (length named) n h) (λ h. let z : ◌≡◌ {A = ℕ} 0 1 = cc (rw (h, misnamed) at e) in omega arith)
+misnamed_naming n named i (b ∷ bs) e =
+    cases (eqb b 255) (λ h. rw h (misnamed_naming n named (suc i) bs (rw (h, misnamed) at e)))
     (λ h. cases (ltb b n && not (any (eqb b) named))
-    (λ g. rw h (ltb-true b n (and_left (ltb b n) (unnamed named b) g), and_right (ltb b n) (unnamed named b) g, misnamed-naming n (b ∷ named) (suc i) bs (rw (h, g, misnamed) at e)))
+    (λ g. rw h (ltb-true b n (and_left (ltb b n) (unnamed named b) g), and_right (ltb b n) (unnamed named b) g, misnamed_naming n (b ∷ named) (suc i) bs (rw (h, g, misnamed) at e)))
     (λ g. let z : ◌≡◌ {A = ℕ} 0 1 = cc (rw (h, g, misnamed) at e) in absurd (omega arith)))
 
 -- the bytes of a plan name its tables
@@ -97,19 +97,19 @@ plan-names bs a = let (s, e) = spelled_out bs a in ap names (sym e) ∙ names-en
 
 -- where answers 7 and 8 are not due, what is summed over the plan's tables is summed over the file's
 pub plan-sum : (f : ℕ → ℕ) (n : ℕ) (bs : List ℕ) → misplaced 1 0 bs ≡ none → misnamed n [] 0 bs ≡ none → sum f (tables (plan_of bs)) ≡ sum f (from 0 n)
-plan-sum f n bs a b = ap (sum f) (sym (plan-names bs a)) ∙ naming-sum f n (names bs) (misnamed-naming n [] 0 bs b)
+plan-sum f n bs a b = ap (sum f) (sym (plan-names bs a)) ∙ naming-sum f n (names bs) (misnamed_naming n [] 0 bs b)
 
-naming-below : (n : ℕ) (named ts : List ℕ) → Naming n named ts → Each (λ t. t < n) ts
-naming-below n named [] m = tt
-naming-below n named (t ∷ ts) m = (m.0, naming-below n (t ∷ named) ts m.2)
+naming_below : (n : ℕ) (named ts : List ℕ) → Naming n named ts → Each (λ t. t < n) ts
+naming_below n named [] m = tt
+naming_below n named (t ∷ ts) m = (m.0, naming_below n (t ∷ named) ts m.2)
 
 -- where answer 8 is not due, the bytes name each table of the file exactly once, and no other
 pub not-misnamed : (n : ℕ) (bs : List ℕ) → misnamed n [] 0 bs ≡ none → NamedOnce n (names bs)
 not-misnamed n bs e =
-    let m = misnamed-naming n [] 0 bs e in
+    let m = misnamed_naming n [] 0 bs e in
     record {
-      present = naming-below n [] (names bs) m;
-      once = λ t h. length-filter-sum (eqb t) (names bs) ∙ naming-sum (λ x. oneIf (eqb t x)) n (names bs) m ∙ sum-from-one t 0 n zero-le (omega arith);
+      present = naming_below n [] (names bs) m;
+      once = λ t h. length-filter-sum (eqb t) (names bs) ∙ naming-sum (λ x. one_if (eqb t x)) n (names bs) m ∙ sum_from_one t 0 n zero-le (omega arith);
     }
 
 -- ---- each table named once: what is summed over the names is summed over the tables

@@ -27,12 +27,12 @@ permutation-any t (exchanged xs ys) = any_append t xs ys ∙ or_comm (any t xs) 
 permutation-any t (beside {xs} {ys} {zs} {ws} p q) = any_append t xs zs ∙ ap₂ (λ a b. a || b) (permutation-any t p) (permutation-any t q) ∙ sym (any_append t ys ws)
 permutation-any t (through p q) = permutation-any t p ∙ permutation-any t q
 
-pub permutation-each : (P : ℕ → Type 0) {xs ys : List ℕ} → Permutation xs ys → Each P ys → Each P xs
-permutation-each P unchanged e = e
-permutation-each P (exchanged xs ys) e = let (a, b) = Each-split P ys xs e in Each-append P xs ys b a
-permutation-each P (beside {xs} {ys} {zs} {ws} p q) e = let (a, b) = Each-split P ys ws e in Each-append P xs zs (permutation-each P p a) (permutation-each P q b)
-permutation-each P (through p q) e = permutation-each P p (permutation-each P q e)
+pub permutation_each : (P : ℕ → Type 0) {xs ys : List ℕ} → Permutation xs ys → Each P ys → Each P xs
+permutation_each P unchanged e = e
+permutation_each P (exchanged xs ys) e = let (a, b) = Each-split P ys xs e in Each-append P xs ys b a
+permutation_each P (beside {xs} {ys} {zs} {ws} p q) e = let (a, b) = Each-split P ys ws e in Each-append P xs zs (permutation_each P p a) (permutation_each P q b)
+permutation_each P (through p q) e = permutation_each P p (permutation_each P q e)
 
 -- the last two of three parts exchanged
-pub last-two : (xs ys zs : List ℕ) → Permutation ((xs ++ ys) ++ zs) ((xs ++ zs) ++ ys)
-last-two xs ys zs = rw (append_assoc xs ys zs, append_assoc xs zs ys) (beside (unchanged {xs = xs}) (exchanged ys zs))
+pub last_two : (xs ys zs : List ℕ) → Permutation ((xs ++ ys) ++ zs) ((xs ++ zs) ++ ys)
+last_two xs ys zs = rw (append_assoc xs ys zs, append_assoc xs zs ys) (beside (unchanged {xs = xs}) (exchanged ys zs))

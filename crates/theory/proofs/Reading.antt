@@ -11,30 +11,30 @@ use lib.Dec.{eqb, ltb}
 use borrow.Author.Tests.{eqb-false, ltb-false}
 use Rattle.theory.specs.Elements.{Each}
 use Rattle.theory.specs.Rules.{Bytes, Fitting, ReadingNumber}
-use Rattle.semantics.specs.Files.{word_at, arity, columnBytes, columnStart, Table, value, copyBytes, Mark, cutMark, tableMark, planMark, otherMark, nextMark, TableRecord, broken, whole, copiesOut, recordBytes, tableRecord, nextTable, Ending, fault, planBytes, planRecord, Reading, readFrom, read}
-use Rattle.theory.proofs.Cases.{cases, or-false-left, or-false-right}
+use Rattle.semantics.specs.Files.{word_at, arity, column_bytes, column_start, Table, value, copy_bytes, Mark, cut_mark, table_mark, plan_mark, other_mark, next_mark, TableRecord, broken, whole, copies_out, record_bytes, table_record, next_table, Ending, fault, plan_bytes, plan_record, Reading, read_from, read}
+use Rattle.theory.proofs.Cases.{cases, or-false_left, or-false_right}
 use Rattle.theory.proofs.Lists.{Each-map, Each-append}
 
 -- ---- either way the parts of the reading go
-pub mark-cases : {P : Type 0} (m : Mark) → (m ≡ cutMark → P) → ((counted : Bool) → m ≡ tableMark counted → P) → (m ≡ planMark → P) → (m ≡ otherMark → P) → P
-mark-cases cutMark a b c d = a refl
-mark-cases (tableMark counted) a b c d = b counted refl
-mark-cases planMark a b c d = c refl
-mark-cases otherMark a b c d = d refl
+pub mark-cases : {P : Type 0} (m : Mark) → (m ≡ cut_mark → P) → ((counted : Bool) → m ≡ table_mark counted → P) → (m ≡ plan_mark → P) → (m ≡ other_mark → P) → P
+mark-cases cut_mark a b c d = a refl
+mark-cases (table_mark counted) a b c d = b counted refl
+mark-cases plan_mark a b c d = c refl
+mark-cases other_mark a b c d = d refl
 
 pub record-cases : {P : Type 0} (r : TableRecord) → ((n : ℕ) → r ≡ broken n → P) → ((t : Table) (size : ℕ) → r ≡ whole t size → P) → P
 record-cases (broken n) f g = f n refl
 record-cases (whole t size) f g = g t size refl
 
-pub ending-cases : {P : Type 0} (e : Ending) → ((n d : ℕ) → e ≡ fault n d → P) → ((code : List ℕ) → e ≡ planBytes code → P) → P
+pub ending-cases : {P : Type 0} (e : Ending) → ((n d : ℕ) → e ≡ fault n d → P) → ((code : List ℕ) → e ≡ plan_bytes code → P) → P
 ending-cases (fault n d) f g = f n d refl
-ending-cases (planBytes code) f g = g code refl
+ending-cases (plan_bytes code) f g = g code refl
 
 -- ---- one table record
 -- a record that was taken whole, with that many bytes left from its mark on
 pub record WholeRecord (o left : ℕ) (t : Table) (size : ℕ) : Type 0 where
-  pub starts : t.start ≡ o + 10 + copyBytes t.counted t.rows
-  pub takes : size ≡ 10 + copyBytes t.counted t.rows + columnBytes t.mask t.rows
+  pub starts : t.start ≡ o + 10 + copy_bytes t.counted t.rows
+  pub takes : size ≡ 10 + copy_bytes t.counted t.rows + column_bytes t.mask t.rows
   pub there : size ≤ left
   pub fits : Fitting (o + left) t
 
@@ -42,41 +42,41 @@ abbrev RecordIs : ℕ → ℕ → TableRecord → Type 0
 RecordIs o left (broken n) = ReadingNumber n
 RecordIs o left (whole t size) = WholeRecord o left t size
 
-record_is : (counted : Bool) (copies : ℕ → ℕ) (o left m n : ℕ) → RecordIs o left (tableRecord counted copies o left m n)
-unfolding tableRecord recordBytes
+record_is : (counted : Bool) (copies : ℕ → ℕ) (o left m n : ℕ) → RecordIs o left (table_record counted copies o left m n)
+unfolding table_record record_bytes
 record_is counted copies o left m n =
-    cases (ltb left 10) (λ a. rw (a, tableRecord) (inl (omega arith)))
-    (λ a. cases (eqb (arity m) 0 || ltb 8 (arity m)) (λ b. rw (a, b, tableRecord) (inl (omega arith)))
-    (λ b. cases (ltb 4096 n) (λ c. rw (a, b, c, tableRecord) (inl (omega arith)))
-    (λ c. cases (ltb left (recordBytes counted m n)) (λ d. rw (a, b, c, d, tableRecord) (inl (omega arith)))
-    (λ d. cases (copiesOut counted copies n) (λ e. rw (a, b, c, d, e, tableRecord) (inr refl))
+    cases (ltb left 10) (λ a. rw (a, table_record) (inl (omega arith)))
+    (λ a. cases (eqb (arity m) 0 || ltb 8 (arity m)) (λ b. rw (a, b, table_record) (inl (omega arith)))
+    (λ b. cases (ltb 4096 n) (λ c. rw (a, b, c, table_record) (inl (omega arith)))
+    (λ c. cases (ltb left (record_bytes counted m n)) (λ d. rw (a, b, c, d, table_record) (inl (omega arith)))
+    (λ d. cases (copies_out counted copies n) (λ e. rw (a, b, c, d, e, table_record) (inr refl))
     (λ e.
-    let none : (arity m ≡ 0 → ⊥) = eqb-false (arity m) 0 (or-false-left (eqb (arity m) 0) (ltb 8 (arity m)) b) in
-    let many : arity m ≤ 8 = ltb-false 8 (arity m) (or-false-right (eqb (arity m) 0) (ltb 8 (arity m)) b) in
-    let there : 10 + copyBytes counted n + columnBytes m n ≤ left = ltb-false left (10 + copyBytes counted n + columnBytes m n) d in
-    rw (a, b, c, d, e, tableRecord)
+    let none : (arity m ≡ 0 → ⊥) = eqb-false (arity m) 0 (or-false_left (eqb (arity m) 0) (ltb 8 (arity m)) b) in
+    let many : arity m ≤ 8 = ltb-false 8 (arity m) (or-false_right (eqb (arity m) 0) (ltb 8 (arity m)) b) in
+    let there : 10 + copy_bytes counted n + column_bytes m n ≤ left = ltb-false left (10 + copy_bytes counted n + column_bytes m n) d in
+    rw (a, b, c, d, e, table_record)
     (record { starts = refl; takes = refl; there = there; fits = record { some = omega arith; few = many; low = ltb-false 4096 n c; inside = omega arith; behind = omega arith } }))))))
 
-abbrev copiesFrom : List ℕ → ℕ → ℕ
-copiesFrom l y = word_at (drop 10 l) (4 * y)
+abbrev copies_from : List ℕ → ℕ → ℕ
+copies_from l y = word_at (drop 10 l) (4 * y)
 
-pub broken-number : (counted : Bool) (o : ℕ) (l : List ℕ) (n : ℕ) → nextTable counted o l ≡ broken n → ReadingNumber n
-broken-number counted o l n e = rw e at (record_is counted (copiesFrom l) o (length l) (word_at l 2) (word_at l 6))
+pub broken-number : (counted : Bool) (o : ℕ) (l : List ℕ) (n : ℕ) → next_table counted o l ≡ broken n → ReadingNumber n
+broken-number counted o l n e = rw e at (record_is counted (copies_from l) o (length l) (word_at l 2) (word_at l 6))
 
-pub whole_is : (counted : Bool) (o : ℕ) (l : List ℕ) (t : Table) (size : ℕ) → nextTable counted o l ≡ whole t size → WholeRecord o (length l) t size
-whole_is counted o l t size e = rw e at (record_is counted (copiesFrom l) o (length l) (word_at l 2) (word_at l 6))
+pub whole_is : (counted : Bool) (o : ℕ) (l : List ℕ) (t : Table) (size : ℕ) → next_table counted o l ≡ whole t size → WholeRecord o (length l) t size
+whole_is counted o l t size e = rw e at (record_is counted (copies_from l) o (length l) (word_at l 2) (word_at l 6))
 
 -- ---- the plan record
 abbrev FaultNumbered : Ending → Type 0
 FaultNumbered (fault n d) = ReadingNumber n
-FaultNumbered (planBytes code) = Unit {0}
+FaultNumbered (plan_bytes code) = Unit {0}
 
-plan-numbered : (o : ℕ) (l : List ℕ) → FaultNumbered (planRecord o l)
-unfolding planRecord
+plan-numbered : (o : ℕ) (l : List ℕ) → FaultNumbered (plan_record o l)
+unfolding plan_record
 plan-numbered o l =
-    cases (ltb (length l) 3) (λ a. rw (a, planRecord) (inl (omega arith)))
-    (λ a. cases (ltb (length l) (3 + get_or l 2 0)) (λ b. rw (a, b, planRecord) (inl (omega arith)))
-    (λ b. cases (ltb (3 + get_or l 2 0) (length l)) (λ c. rw (a, b, c, planRecord) (inl (omega arith))) (λ c. rw (a, b, c, planRecord) tt)))
+    cases (ltb (length l) 3) (λ a. rw (a, plan_record) (inl (omega arith)))
+    (λ a. cases (ltb (length l) (3 + get_or l 2 0)) (λ b. rw (a, b, plan_record) (inl (omega arith)))
+    (λ b. cases (ltb (3 + get_or l 2 0) (length l)) (λ c. rw (a, b, c, plan_record) (inl (omega arith))) (λ c. rw (a, b, c, plan_record) tt)))
 
 -- ---- the whole reading
 -- the reading from offset o on, of the bytes l: what it adds to the tables ts
@@ -104,31 +104,31 @@ goes_on k o l ts t size r w n =
       numbered = n.numbered;
     }
 
-pub reads_on : (k o : ℕ) (l : List ℕ) (ts : List Table) → ReadsOn k o l ts (readFrom k o l ts)
-unfolding readFrom
+pub reads_on : (k o : ℕ) (l : List ℕ) (ts : List Table) → ReadsOn k o l ts (read_from k o l ts)
+unfolding read_from
 reads_on zero o l ts =
-    mark-cases (nextMark l)
-    (λ m. rw (m, readFrom) (stops zero o l ts (fault 1 o) (inl (omega arith))))
-    (λ b m. rw (m, readFrom) (stops zero o l ts (fault 5 o) (inl (omega arith))))
-    (λ m. rw (m, readFrom) (stops zero o l ts (planRecord o l) (plan-numbered o l)))
-    (λ m. rw (m, readFrom) (stops zero o l ts (fault 2 o) (inl (omega arith))))
+    mark-cases (next_mark l)
+    (λ m. rw (m, read_from) (stops zero o l ts (fault 1 o) (inl (omega arith))))
+    (λ b m. rw (m, read_from) (stops zero o l ts (fault 5 o) (inl (omega arith))))
+    (λ m. rw (m, read_from) (stops zero o l ts (plan_record o l) (plan-numbered o l)))
+    (λ m. rw (m, read_from) (stops zero o l ts (fault 2 o) (inl (omega arith))))
 reads_on (suc k) o l ts =
-    mark-cases (nextMark l)
-    (λ m. rw (m, readFrom) (stops (suc k) o l ts (fault 1 o) (inl (omega arith))))
-    (λ b m. record-cases (nextTable b o l)
-    (λ n e. rw (m, e, readFrom) (stops (suc k) o l ts (fault n o) (broken-number b o l n e)))
-    (λ t size e. rw (m, e, readFrom) (goes_on k o l ts t size (readFrom k (o + size) (drop size l) (ts ++ (t ∷ []))) (whole_is b o l t size e) (reads_on k (o + size) (drop size l) (ts ++ (t ∷ []))))))
-    (λ m. rw (m, readFrom) (stops (suc k) o l ts (planRecord o l) (plan-numbered o l)))
-    (λ m. rw (m, readFrom) (stops (suc k) o l ts (fault 2 o) (inl (omega arith))))
+    mark-cases (next_mark l)
+    (λ m. rw (m, read_from) (stops (suc k) o l ts (fault 1 o) (inl (omega arith))))
+    (λ b m. record-cases (next_table b o l)
+    (λ n e. rw (m, e, read_from) (stops (suc k) o l ts (fault n o) (broken-number b o l n e)))
+    (λ t size e. rw (m, e, read_from) (goes_on k o l ts t size (read_from k (o + size) (drop size l) (ts ++ (t ∷ []))) (whole_is b o l t size e) (reads_on k (o + size) (drop size l) (ts ++ (t ∷ []))))))
+    (λ m. rw (m, read_from) (stops (suc k) o l ts (plan_record o l) (plan-numbered o l)))
+    (λ m. rw (m, read_from) (stops (suc k) o l ts (fault 2 o) (inl (omega arith))))
 
 -- at most 16 tables, each within the rules and inside the file
-pub tables-few : (bytes : List ℕ) → length (read bytes).tables ≤ 16
+pub tables_few : (bytes : List ℕ) → length (read bytes).tables ≤ 16
 unfolding read
-tables-few bytes = let r = reads_on 16 0 bytes [] in omega (arith, r.few, ap length r.tables)
+tables_few bytes = let r = reads_on 16 0 bytes [] in omega (arith, r.few, ap length r.tables)
 
-pub tables-fit : (bytes : List ℕ) → Each (Fitting (length bytes)) (read bytes).tables
+pub tables_fit : (bytes : List ℕ) → Each (Fitting (length bytes)) (read bytes).tables
 unfolding read
-tables-fit bytes =
+tables_fit bytes =
     let r = reads_on 16 0 bytes [] in
     let n : 0 + length bytes ≡ length bytes = omega arith in
     rw r.tables (rw n at r.fit)
@@ -153,9 +153,9 @@ pub word_small : (l : List ℕ) (at : ℕ) → Bytes l → word_at l at < 2 ^ 32
 unfolding word_at
 word_small l at e = omega (arith, byte_at l at e, byte_at l (at + 1) e, byte_at l (at + 2) e, byte_at l (at + 3) e)
 
-pub value-small : (bytes : List ℕ) (t : Table) (a y : ℕ) → Bytes bytes → value bytes t a y < 2 ^ 32
+pub value_small : (bytes : List ℕ) (t : Table) (a y : ℕ) → Bytes bytes → value bytes t a y < 2 ^ 32
 unfolding value
-value-small bytes t a y e = word_small (drop (columnStart t a) bytes) (4 * y) (bytes_drop (columnStart t a) bytes e)
+value_small bytes t a y e = word_small (drop (column_start t a) bytes) (4 * y) (bytes_drop (column_start t a) bytes e)
 
 pub bytes_of : (l : List ℕ) → ((i : ℕ) → get_or l i 0 < 256) → Bytes l
 bytes_of [] h = tt
@@ -164,84 +164,84 @@ bytes_of (x ∷ l) h = (h 0, bytes_of l (λ i. h (suc i)))
 -- ---- the fields of a table are those of its record
 abbrev FieldsAre : TableRecord → Bool → (ℕ → ℕ) → ℕ → ℕ → Type 0
 FieldsAre (broken k) counted copies m n = Unit {0}
-FieldsAre (whole t size) counted copies m n = (t.mask ≡ m) × (t.rows ≡ n) × (t.counted ≡ counted) × (copiesOut counted copies n ≡ false)
+FieldsAre (whole t size) counted copies m n = (t.mask ≡ m) × (t.rows ≡ n) × (t.counted ≡ counted) × (copies_out counted copies n ≡ false)
 
-record-fields : (counted : Bool) (copies : ℕ → ℕ) (o left m n : ℕ) → FieldsAre (tableRecord counted copies o left m n) counted copies m n
-unfolding tableRecord
-record-fields counted copies o left m n =
-    cases (ltb left 10) (λ a. rw (a, tableRecord) tt)
-    (λ a. cases (eqb (arity m) 0 || ltb 8 (arity m)) (λ b. rw (a, b, tableRecord) tt)
-    (λ b. cases (ltb 4096 n) (λ c. rw (a, b, c, tableRecord) tt)
-    (λ c. cases (ltb left (recordBytes counted m n)) (λ d. rw (a, b, c, d, tableRecord) tt)
-    (λ d. cases (copiesOut counted copies n) (λ e. rw (a, b, c, d, e, tableRecord) tt) (λ e. rw (a, b, c, d, e, tableRecord) (refl, refl, refl, e))))))
+record_fields : (counted : Bool) (copies : ℕ → ℕ) (o left m n : ℕ) → FieldsAre (table_record counted copies o left m n) counted copies m n
+unfolding table_record
+record_fields counted copies o left m n =
+    cases (ltb left 10) (λ a. rw (a, table_record) tt)
+    (λ a. cases (eqb (arity m) 0 || ltb 8 (arity m)) (λ b. rw (a, b, table_record) tt)
+    (λ b. cases (ltb 4096 n) (λ c. rw (a, b, c, table_record) tt)
+    (λ c. cases (ltb left (record_bytes counted m n)) (λ d. rw (a, b, c, d, table_record) tt)
+    (λ d. cases (copies_out counted copies n) (λ e. rw (a, b, c, d, e, table_record) tt) (λ e. rw (a, b, c, d, e, table_record) (refl, refl, refl, e))))))
 
 -- of one taken whole
 pub record WholeFields (counted : Bool) (l : List ℕ) (t : Table) : Type 0 where
   pub mask : t.mask ≡ word_at l 2
   pub rows : t.rows ≡ word_at l 6
   pub marked : t.counted ≡ counted
-  pub copies : copiesOut counted (λ y. word_at (drop 10 l) (4 * y)) (word_at l 6) ≡ false
+  pub copies : copies_out counted (λ y. word_at (drop 10 l) (4 * y)) (word_at l 6) ≡ false
 
-pub whole_fields : (counted : Bool) (o : ℕ) (l : List ℕ) (t : Table) (size : ℕ) → nextTable counted o l ≡ whole t size → WholeFields counted l t
+pub whole_fields : (counted : Bool) (o : ℕ) (l : List ℕ) (t : Table) (size : ℕ) → next_table counted o l ≡ whole t size → WholeFields counted l t
 whole_fields counted o l t size e =
-    let (a, b, c, d) = rw e at (record-fields counted (copiesFrom l) o (length l) (word_at l 2) (word_at l 6)) in
+    let (a, b, c, d) = rw e at (record_fields counted (copies_from l) o (length l) (word_at l 2) (word_at l 6)) in
     record { mask = a; rows = b; marked = c; copies = d }
 
 -- ---- masks are words
 abbrev HasWord : Table → Type 0
 HasWord t = t.mask < 2 ^ 32
 
-masks-from : (k o : ℕ) (l : List ℕ) (ts : List Table) → Bytes l → Each HasWord ts → Each HasWord (readFrom k o l ts).tables
-unfolding readFrom
-masks-from zero o l ts b e = mark-cases (nextMark l) (λ m. rw (m, readFrom) e) (λ c m. rw (m, readFrom) e) (λ m. rw (m, readFrom) e) (λ m. rw (m, readFrom) e)
-masks-from (suc k) o l ts b e =
-    mark-cases (nextMark l)
-    (λ m. rw (m, readFrom) e)
-    (λ c m. record-cases (nextTable c o l)
-    (λ n q. rw (m, q, readFrom) e)
+masks_from : (k o : ℕ) (l : List ℕ) (ts : List Table) → Bytes l → Each HasWord ts → Each HasWord (read_from k o l ts).tables
+unfolding read_from
+masks_from zero o l ts b e = mark-cases (next_mark l) (λ m. rw (m, read_from) e) (λ c m. rw (m, read_from) e) (λ m. rw (m, read_from) e) (λ m. rw (m, read_from) e)
+masks_from (suc k) o l ts b e =
+    mark-cases (next_mark l)
+    (λ m. rw (m, read_from) e)
+    (λ c m. record-cases (next_table c o l)
+    (λ n q. rw (m, q, read_from) e)
     (λ t size q.
     let w : t.mask ≡ word_at l 2 = (whole_fields c o l t size q).mask in
-    rw (m, q, readFrom) (masks-from k (o + size) (drop size l) (ts ++ (t ∷ [])) (bytes_drop size l b) (Each-append HasWord ts (t ∷ []) e (omega (arith, word_small l 2 b), tt)))))
-    (λ m. rw (m, readFrom) e)
-    (λ m. rw (m, readFrom) e)
+    rw (m, q, read_from) (masks_from k (o + size) (drop size l) (ts ++ (t ∷ [])) (bytes_drop size l b) (Each-append HasWord ts (t ∷ []) e (omega (arith, word_small l 2 b), tt)))))
+    (λ m. rw (m, read_from) e)
+    (λ m. rw (m, read_from) e)
 
 pub tables-masks : (bytes : List ℕ) → Bytes bytes → Each (λ t. t.mask < 2 ^ 32) (read bytes).tables
 unfolding read
-tables-masks bytes b = masks-from 16 0 bytes [] b tt
+tables-masks bytes b = masks_from 16 0 bytes [] b tt
 
 -- ---- the plan's bytes are the last ones of the file
 abbrev Suffix : List ℕ → Ending → Type 0
 Suffix l (fault n d) = Unit {0}
-Suffix l (planBytes code) = (i : ℕ) × (i ≤ length l) × (code ≡ drop i l)
+Suffix l (plan_bytes code) = (i : ℕ) × (i ≤ length l) × (code ≡ drop i l)
 
-plan-suffix : (o : ℕ) (l : List ℕ) → Suffix l (planRecord o l)
-unfolding planRecord
-plan-suffix o l =
-    cases (ltb (length l) 3) (λ a. rw (a, planRecord) tt)
-    (λ a. cases (ltb (length l) (3 + get_or l 2 0)) (λ b. rw (a, b, planRecord) tt)
-    (λ b. cases (ltb (3 + get_or l 2 0) (length l)) (λ c. rw (a, b, c, planRecord) tt) (λ c. rw (a, b, c, planRecord) (3, ltb-false (length l) 3 a, refl))))
+plan_suffix : (o : ℕ) (l : List ℕ) → Suffix l (plan_record o l)
+unfolding plan_record
+plan_suffix o l =
+    cases (ltb (length l) 3) (λ a. rw (a, plan_record) tt)
+    (λ a. cases (ltb (length l) (3 + get_or l 2 0)) (λ b. rw (a, b, plan_record) tt)
+    (λ b. cases (ltb (3 + get_or l 2 0) (length l)) (λ c. rw (a, b, c, plan_record) tt) (λ c. rw (a, b, c, plan_record) (3, ltb-false (length l) 3 a, refl))))
 
 longer : (n : ℕ) (l : List ℕ) → n ≤ length l → (e : Ending) → Suffix (drop n l) e → Suffix l e
 longer n l h (fault a d) s = tt
-longer n l h (planBytes code) s = (n + s.0, omega (arith, s.1, length-drop n l), s.2 ∙ drop-drop s.0 n l)
+longer n l h (plan_bytes code) s = (n + s.0, omega (arith, s.1, length-drop n l), s.2 ∙ drop-drop s.0 n l)
 
-suffix-from : (k o : ℕ) (l : List ℕ) (ts : List Table) → Suffix l (readFrom k o l ts).ending
-unfolding readFrom
-suffix-from zero o l ts = mark-cases (nextMark l) (λ m. rw (m, readFrom) tt) (λ c m. rw (m, readFrom) tt) (λ m. rw (m, readFrom) (plan-suffix o l)) (λ m. rw (m, readFrom) tt)
-suffix-from (suc k) o l ts =
-    mark-cases (nextMark l)
-    (λ m. rw (m, readFrom) tt)
-    (λ c m. record-cases (nextTable c o l)
-    (λ n q. rw (m, q, readFrom) tt)
+suffix_from : (k o : ℕ) (l : List ℕ) (ts : List Table) → Suffix l (read_from k o l ts).ending
+unfolding read_from
+suffix_from zero o l ts = mark-cases (next_mark l) (λ m. rw (m, read_from) tt) (λ c m. rw (m, read_from) tt) (λ m. rw (m, read_from) (plan_suffix o l)) (λ m. rw (m, read_from) tt)
+suffix_from (suc k) o l ts =
+    mark-cases (next_mark l)
+    (λ m. rw (m, read_from) tt)
+    (λ c m. record-cases (next_table c o l)
+    (λ n q. rw (m, q, read_from) tt)
     (λ t size q.
     let w = whole_is c o l t size q in
-    rw (m, q, readFrom) (longer size l w.there (readFrom k (o + size) (drop size l) (ts ++ (t ∷ []))).ending (suffix-from k (o + size) (drop size l) (ts ++ (t ∷ []))))))
-    (λ m. rw (m, readFrom) (plan-suffix o l))
-    (λ m. rw (m, readFrom) tt)
+    rw (m, q, read_from) (longer size l w.there (read_from k (o + size) (drop size l) (ts ++ (t ∷ []))).ending (suffix_from k (o + size) (drop size l) (ts ++ (t ∷ []))))))
+    (λ m. rw (m, read_from) (plan_suffix o l))
+    (λ m. rw (m, read_from) tt)
 
-pub plan-last : (bytes code : List ℕ) → (read bytes).ending ≡ planBytes code → drop (length bytes - length code) bytes ≡ code
+pub plan_last : (bytes code : List ℕ) → (read bytes).ending ≡ plan_bytes code → drop (length bytes - length code) bytes ≡ code
 unfolding read
-plan-last bytes code e =
-    let (i, h, q) = rw e at (suffix-from 16 0 bytes []) in
+plan_last bytes code e =
+    let (i, h, q) = rw e at (suffix_from 16 0 bytes []) in
     let n : length bytes - length code ≡ i = omega (arith, ap length q, length-drop i bytes) in
     ap (λ k. drop k bytes) n ∙ sym q

@@ -21,11 +21,11 @@ minus M e x = not (eqb x e) && M x
 abbrev pub plus : (ℕ → Bool) → ℕ → ℕ → Bool
 plus M e x = M x || eqb x e
 
-pub in-minus : (M : ℕ → Bool) (e x : ℕ) → (x ≡ e → ⊥) → M x ≡ true → minus M e x ≡ true
-in-minus M e x d m = rw (ne_eqb x e d) m
+pub in_minus : (M : ℕ → Bool) (e x : ℕ) → (x ≡ e → ⊥) → M x ≡ true → minus M e x ≡ true
+in_minus M e x d m = rw (ne_eqb x e d) m
 
-pub out-minus : (M : ℕ → Bool) (e x : ℕ) → minus M e x ≡ true → (x ≡ e → ⊥) × (M x ≡ true)
-out-minus M e x m = (eqb-false x e (not-true (eqb x e) (and_left (not (eqb x e)) (M x) m)), and_right (not (eqb x e)) (M x) m)
+pub out_minus : (M : ℕ → Bool) (e x : ℕ) → minus M e x ≡ true → (x ≡ e → ⊥) × (M x ≡ true)
+out_minus M e x m = (eqb-false x e (not-true (eqb x e) (and_left (not (eqb x e)) (M x) m)), and_right (not (eqb x e)) (M x) m)
 
 and-swap : (a b c : Bool) → (a && (b && c)) ≡ (b && (a && c))
 and-swap true true c = refl
@@ -52,6 +52,6 @@ pub each_member : (P : ℕ → Type 0) (xs : List ℕ) → ((x : ℕ) → member
 each_member P [] f = tt
 each_member P (x ∷ xs) f = (f x (or_left (eqb x x) (member xs x) (eq-eqb x x refl)), each_member P xs (λ y m. f y (or_right (eqb y x) (member xs y) m)))
 
-pub member-each : (P : ℕ → Type 0) (xs : List ℕ) (x : ℕ) → Each P xs → member xs x ≡ true → P x
-member-each P [] x e m = absurd (true-false false m refl)
-member-each P (y ∷ ys) x e m = or_cases (eqb x y) (member ys x) m (λ i. subst P (sym (eqb-true x y i)) e.0) (λ i. member-each P ys x e.1 i)
+pub member_each : (P : ℕ → Type 0) (xs : List ℕ) (x : ℕ) → Each P xs → member xs x ≡ true → P x
+member_each P [] x e m = absurd (true-false false m refl)
+member_each P (y ∷ ys) x e m = or_cases (eqb x y) (member ys x) m (λ i. subst P (sym (eqb-true x y i)) e.0) (λ i. member_each P ys x e.1 i)

@@ -4,13 +4,13 @@
 use Rattle.std.specs.Prelude.{◌≡◌, Bool, true, false, ◌&&◌, ◌||◌, not, List, [], ◌∷◌, ◌++◌, ◌⊎◌, ℕ, zero, suc, ◌+◌, ◌*◌, ◌≤◌, ◌<◌, length, take, drop, get_or, eqb, ltb}
 use Rattle.theory.specs.Elements.{Each, member}
 use Rattle.semantics.specs.Lists.{any, filter, up_to}
-use Rattle.semantics.specs.Files.{Table, word_at, copiesFit, recordBytes, tableMark, nextMark, whole, nextTable, planBytes, read}
+use Rattle.semantics.specs.Files.{Table, word_at, copies_fit, record_bytes, table_mark, next_mark, whole, next_table, plan_bytes, read}
 use Rattle.semantics.specs.Plans.{Plan, join, encode, tables}
 use Rattle.theory.specs.Rules.{Small, NamedOnce, WellBehaved}
-use Rattle.semantics.specs.Shapes.{Shape, joinAttributes, shape_of}
-use Rattle.semantics.specs.Mending.{holdsAll, mend}
+use Rattle.semantics.specs.Shapes.{Shape, join_attributes, shape_of}
+use Rattle.semantics.specs.Mending.{holds_all, mend}
 use Rattle.theory.specs.Selections.{Mendable}
-use Rattle.semantics.specs.Elimination.{Hanging, without, planUnder}
+use Rattle.semantics.specs.Elimination.{Hanging, without, plan_under}
 
 -- ---- 7
 -- the bytes spell one plan
@@ -43,31 +43,31 @@ abbrev pub Once : Plan → Type 0
 Once p = (t : ℕ) → length (filter (eqb t) (tables p)) ≤ 1
 
 -- the byte at index i names a table absent from a file of n tables, or already named
-unfoldable pub wrongName : ℕ → List ℕ → ℕ → Bool
-wrongName n bs i = let b = get_or bs i 0 in not (eqb b 0xFF) && (not (ltb b n) || any (eqb b) (names (take i bs)))
+unfoldable pub wrong_name : ℕ → List ℕ → ℕ → Bool
+wrong_name n bs i = let b = get_or bs i 0 in not (eqb b 0xFF) && (not (ltb b n) || any (eqb b) (names (take i bs)))
 
 -- "index of the first byte naming a table absent from the file or already named; n if there is no such byte": then a table is
 -- not named
 pub record FirstMisnamed (n : ℕ) (bs : List ℕ) (i : ℕ) : Type 0 where
   pub within : i ≤ length bs
-  pub before : (j : ℕ) → j < i → wrongName n bs j ≡ false
-  pub wrong : i < length bs → wrongName n bs i ≡ true
+  pub before : (j : ℕ) → j < i → wrong_name n bs j ≡ false
+  pub wrong : i < length bs → wrong_name n bs i ≡ true
   pub missing : i ≡ length bs → (t : ℕ) × (t < n) × (any (eqb t) (names bs) ≡ false)
 
 -- ---- 9
 -- the plan q stands in the plan p, and its bytes in those of p begin at that index
 pub data Stands : Plan → Plan → ℕ → Type 0 where
   itself : {p : Plan} → Stands p p 0
-  inLeft : {q l r : Plan} {i : ℕ} → Stands q l i → Stands q (join l r) (suc i)
-  inRight : {q l r : Plan} {i : ℕ} → Stands q r i → Stands q (join l r) (suc (length (encode l) + i))
+  in_left : {q l r : Plan} {i : ℕ} → Stands q l i → Stands q (join l r) (suc i)
+  in_right : {q l r : Plan} {i : ℕ} → Stands q r i → Stands q (join l r) (suc (length (encode l) + i))
 
 -- no table of the plan holds all of the attributes
 abbrev pub NoHolder : Shape → List ℕ → Plan → Type 0
-NoHolder S ks p = Each (λ t. holdsAll S ks t ≡ false) (tables p)
+NoHolder S ks p = Each (λ t. holds_all S ks t ≡ false) (tables p)
 
 -- request U2: the join of l and r "has a side where no table holds its join attributes"
 abbrev pub LacksHolder : Shape → Plan → Plan → Type 0
-LacksHolder S l r = NoHolder S (joinAttributes S l r) l ⊎ NoHolder S (joinAttributes S l r) r
+LacksHolder S l r = NoHolder S (join_attributes S l r) l ⊎ NoHolder S (join_attributes S l r) r
 
 -- "the first such FF"
 pub record FirstLacking (S : Shape) (p : Plan) (i : ℕ) : Type 0 where
@@ -94,8 +94,8 @@ pub record Ear (S : Shape) (M : ℕ → Bool) (e f : ℕ) : Type 0 where
 -- "the lowest-numbered table" that can hang "hangs under the lowest-numbered such table"
 pub record NextHung (S : Shape) (rest : List ℕ) (h : Hanging) : Type 0 where
   pub hangs : Ear S (member rest) h.child h.parent
-  pub lowestChild : (t u : ℕ) → t < h.child → Ear S (member rest) t u → ⊥
-  pub lowestParent : (u : ℕ) → u < h.parent → Ear S (member rest) h.child u → ⊥
+  pub lowest_child : (t u : ℕ) → t < h.child → Ear S (member rest) t u → ⊥
+  pub lowest_parent : (u : ℕ) → u < h.parent → Ear S (member rest) h.child u → ⊥
 
 module _ (S : Shape) (n : ℕ) where
   -- "repeatedly", of the tables 0 to n - 1: what remains then, and what was hung, the latest first
@@ -119,7 +119,7 @@ module _ (S : Shape) (n : ℕ) where
     pub root : ℕ
     pub hung : List Hanging
     pub remains : Remains (root ∷ []) hung
-    pub is : planUnder hung root ≡ p
+    pub is : plan_under hung root ≡ p
 
 -- "no well-behaved plan over these tables exists"
 abbrev pub NoPlan : List Table → Type 0
@@ -135,7 +135,7 @@ pub data Followed (ts : List Table) (code : List ℕ) (p : Plan) : Type 0 where
 -- no number up to 6 is due, and the n bytes of the plan have the property
 pub record ReadsPlan (bytes : List ℕ) (X : List ℕ → Type 0) : Type 0 where
   pub code : List ℕ
-  pub reads : (read bytes).ending ≡ planBytes code
+  pub reads : (read bytes).ending ≡ plan_bytes code
   pub has : X code
 
 -- ---- 19
@@ -143,18 +143,18 @@ pub record ReadsPlan (bytes : List ℕ) (X : List ℕ → Type 0) : Type 0 where
 pub record OutOfRange (bytes : List ℕ) (d : ℕ) : Type 0 where
   pub first : get_or bytes d 0 ≡ 0x54
   pub second : get_or bytes (d + 1) 0 ≡ 0x43
-  pub there : d + recordBytes true (word_at bytes (d + 2)) (word_at bytes (d + 6)) ≤ length bytes
+  pub there : d + record_bytes true (word_at bytes (d + 2)) (word_at bytes (d + 6)) ≤ length bytes
   pub row : ℕ
   pub low : row < word_at bytes (d + 6)
-  pub out : copiesFit (word_at (drop (d + 10) bytes) (4 * row)) ≡ false
+  pub out : copies_fit (word_at (drop (d + 10) bytes) (4 * row)) ≡ false
 
 -- between two offsets stands a whole table record
 pub record WholeTable (bytes : List ℕ) (from to : ℕ) : Type 0 where
   pub counted : Bool
-  pub mark : nextMark (drop from bytes) ≡ tableMark counted
+  pub mark : next_mark (drop from bytes) ≡ table_mark counted
   pub table : Table
   pub size : ℕ
-  pub is : nextTable counted from (drop from bytes) ≡ whole table size
+  pub is : next_table counted from (drop from bytes) ≡ whole table size
   pub end : to ≡ from + size
 
 -- before an offset stand n whole table records, and nothing else

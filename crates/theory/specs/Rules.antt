@@ -1,9 +1,9 @@
 -- What the rules ask of a file's tables and of its plan, and what they leave.
 use Rattle.std.specs.Prelude.{◌≡◌, Bool, true, ◌&&◌, List, ◌⊎◌, ℕ, ◌+◌, ◌*◌, ◌≤◌, ◌<◌, length, drop, eqb}
 use Rattle.semantics.specs.Lists.{all, filter}
-use Rattle.semantics.specs.Files.{Table, arity, columnBytes, word_at, copyBytes, copyStart, copiesAt}
+use Rattle.semantics.specs.Files.{Table, arity, column_bytes, word_at, copy_bytes, copy_start, copies_at}
 use Rattle.semantics.specs.Plans.{Plan, scan, join, tables, leftmost}
-use Rattle.semantics.specs.Shapes.{Shape, shape_of, joinAttributes}
+use Rattle.semantics.specs.Shapes.{Shape, shape_of, join_attributes}
 use Rattle.theory.specs.Elements.{Each}
 
 -- ---- a file
@@ -16,13 +16,13 @@ pub record Fitting (n : ℕ) (t : Table) : Type 0 where
   pub some : 1 ≤ arity t.mask
   pub few : arity t.mask ≤ 8
   pub low : t.rows ≤ 4096
-  pub inside : t.start + columnBytes t.mask t.rows ≤ n
-  pub behind : 10 + copyBytes t.counted t.rows ≤ t.start  -- mark, fields and copies stand before the attribute columns
+  pub inside : t.start + column_bytes t.mask t.rows ≤ n
+  pub behind : 10 + copy_bytes t.counted t.rows ≤ t.start  -- mark, fields and copies stand before the attribute columns
 
 -- what the rules ask of the copies of a table's rows: 1 to 65,535, so that the words of their column are not held
 pub record Counted (bytes : List ℕ) (t : Table) : Type 0 where
-  pub some : (y : ℕ) → y < t.rows → 1 ≤ copiesAt bytes t y
-  pub exact : t.counted ≡ true → (y : ℕ) → y < t.rows → word_at (drop (copyStart t) bytes) (4 * y) ≡ copiesAt bytes t y
+  pub some : (y : ℕ) → y < t.rows → 1 ≤ copies_at bytes t y
+  pub exact : t.counted ≡ true → (y : ℕ) → y < t.rows → word_at (drop (copy_start t) bytes) (4 * y) ≡ copies_at bytes t y
 
 -- ---- a plan
 -- the table numbers of a plan that bytes can name
@@ -43,7 +43,7 @@ pub record NamedOnce (n : ℕ) (ts : List ℕ) : Type 0 where
 module _ (S : Shape) where
   -- the leftmost table of the left plan and that of the right plan both have all join attributes
   unfoldable pub behaves : Plan → Plan → Bool
-  behaves l r = all (λ a. S.has (leftmost l) a && S.has (leftmost r) a) (joinAttributes S l r)
+  behaves l r = all (λ a. S.has (leftmost l) a && S.has (leftmost r) a) (join_attributes S l r)
 
   -- "the plan is well-behaved"
   abbrev pub WellBehaved : Plan → Type 0

@@ -16,29 +16,29 @@ mutual
 
 -- "in the plan a table joins its children's plans in turn"
 abbrev mutual
-  pub planOfTree : JoinTree → Plan
-  planOfTree (node t cs) = in_turn cs (scan t)
+  pub plan_of_tree : JoinTree → Plan
+  plan_of_tree (node t cs) = in_turn cs (scan t)
 
   pub in_turn : Children → Plan → Plan
   in_turn childless p = p
-  in_turn (child c cs) p = in_turn cs (join p (planOfTree c))
+  in_turn (child c cs) p = in_turn cs (join p (plan_of_tree c))
 
 -- the tree of a plan, where a join hangs the right tree last under the root of the left one
-abbrev pub childLast : Children → JoinTree → Children
-childLast childless d = child d childless
-childLast (child c cs) d = child c (childLast cs d)
+abbrev pub child_last : Children → JoinTree → Children
+child_last childless d = child d childless
+child_last (child c cs) d = child c (child_last cs d)
 
-abbrev pub hungLast : JoinTree → JoinTree → JoinTree
-hungLast (node t cs) d = node t (childLast cs d)
+abbrev pub hung_last : JoinTree → JoinTree → JoinTree
+hung_last (node t cs) d = node t (child_last cs d)
 
-abbrev pub joinTreeOf : Plan → JoinTree
-joinTreeOf (scan t) = node t childless
-joinTreeOf (join l r) = hungLast (joinTreeOf l) (joinTreeOf r)
+abbrev pub join_tree_of : Plan → JoinTree
+join_tree_of (scan t) = node t childless
+join_tree_of (join l r) = hung_last (join_tree_of l) (join_tree_of r)
 
 -- the children of a plan's first-named table, in the order in which it joins their plans
-abbrev pub childrenOf : Plan → List ℕ
-childrenOf (scan t) = []
-childrenOf (join l r) = childrenOf l ++ (leftmost r ∷ [])
+abbrev pub children_of : Plan → List ℕ
+children_of (scan t) = []
+children_of (join l r) = children_of l ++ (leftmost r ∷ [])
 
 -- every plan that hangs in the plan has the property: under its first-named table, and further below
 abbrev pub EachHung : (Plan → Type 0) → Plan → Type 0
@@ -51,5 +51,5 @@ UnderEach P p = P p × EachHung P p
 
 -- request U4: the children of the first-named table are the tables that were hung under it, and "stand in rising number"
 pub record HungRising (gs : List Hanging) (p : Plan) : Type 0 where
-  pub hung : (c : ℕ) → member (childrenOf p) c ≡ any (λ h. eqb (leftmost p) h.parent && eqb c h.child) gs
-  pub rising : Rising (childrenOf p)
+  pub hung : (c : ℕ) → member (children_of p) c ≡ any (λ h. eqb (leftmost p) h.parent && eqb c h.child) gs
+  pub rising : Rising (children_of p)

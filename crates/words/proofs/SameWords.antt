@@ -39,5 +39,5 @@ module _ {a b : List ℕ} {i : ℕ} (S : SameTo a b i) where
         each = λ j h. cases (ltb j i) (λ q. S.each j (ltb-true j i q)) (λ q. let z : j ≡ i = omega (arith, ltb-false j i q) in rw z e);
       }
 
-  pub same-all : length a ≤ i → true ≡ same a b
-  same-all h = let e : a ≡ b = ext_get_or 0 a b S.size (λ j q. S.each j (omega arith)) in sym (ap (same a) (sym e) ∙ same_refl a)
+  pub same_all : length a ≤ i → true ≡ same a b
+  same_all h = let e : a ≡ b = ext_get_or 0 a b S.size (λ j q. S.each j (omega arith)) in sym (ap (same a) (sym e) ∙ same_refl a)

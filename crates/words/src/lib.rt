@@ -1,9 +1,9 @@
 // Words of a byte slice, bits of a mask, numbers of two words, sums and products held at the limit, words zeroed and compared.
 ghost use Rattle.std.specs.Prelude.{◌≡◌, ◌+◌, ◌<◌, ◌≤◌, length};
 ghost use Rattle.semantics.specs.Lists.{same};
-ghost use Rattle.semantics.specs.Files.{word_at, hasBit, onesBelow, arity};
+ghost use Rattle.semantics.specs.Files.{word_at, has_bit, ones_below, arity};
 ghost use Rattle.semantics.specs.Outcome.{zeros};
-ghost use Rattle.words.specs.Arrays.{zerosThen};
+ghost use Rattle.words.specs.Arrays.{zeros_then};
 
 mod halves;
 mod pairs;
@@ -43,7 +43,7 @@ pub fn word(s: &[u8], at: usize) -> u32
 // Whether a table with this mask has the attribute.
 pub fn has_bit(mask: u32, bit: u32) -> bool
     requires { bit < 32 }
-    ensures { result ≡ hasBit mask bit }
+    ensures { result ≡ has_bit mask bit }
 {
     (mask >> bit) % 2 == 1
 }
@@ -51,7 +51,7 @@ pub fn has_bit(mask: u32, bit: u32) -> bool
 // The ones of the mask below a bit: the place of that attribute's column.
 pub fn ones_below(mask: u32, bit: u32) -> u32
     requires { bit < 32 }
-    ensures { result ≡ onesBelow mask bit }
+    ensures { result ≡ ones_below mask bit }
 {
     u32::count_ones(mask % (1 << bit))
 }
@@ -66,7 +66,7 @@ pub fn ones(mask: u32) -> u32
 // Zeroes the first n words.
 pub fn clear_first(words: &mut [u32], n: usize)
     requires { n ≤ length words.old }
-    ensures { words.new ≡ zerosThen n words.old }
+    ensures { words.new ≡ zeros_then n words.old }
 {
     let mut i = 0;
     while i < n {

@@ -21,13 +21,13 @@ same_length : tie.Need-same-length
 same_length c = search rules
 
 returns : tie.Need-returns
-returns c = let a = c.before.before.before.before.before.join-by-choices in carried a.result _ (λ o. ap (λ x. leaves x o) (sym c.before.answer.given.1)) a.ensures
+returns c = let a = c.before.before.before.before.before.join_by_choices in carried a.result _ (λ o. ap (λ x. leaves x o) (sym c.before.answer.given.1)) a.ensures
 
 same-length-2 : tie.Need-same-length-2
 same-length-2 c = search rules
 
 returns-2 : tie.Need-returns-2
-returns-2 c = let a = c.before.before.before.before.before.join-by-choices in carried a.result _ (λ o. ap (λ x. leaves x o) (sym c.before.answer2.given.1)) a.ensures
+returns-2 c = let a = c.before.before.before.before.before.join_by_choices in carried a.result _ (λ o. ap (λ x. leaves x o) (sym c.before.answer2.given.1)) a.ensures
 
 pub pigrozd-slow-join-spec : {M : Type 1} → statement M
 pigrozd-slow-join-spec =

@@ -50,7 +50,7 @@ slice-relend-prefix-join-with c = search rules
 
 slice-aggregate-join-with : tie.Need-slice-aggregate-join-with
 slice-aggregate-join-with c =
-    sym (length-take-le c.before.before.before.before.before.before.before.word-index.result c.before.before.before.before.before.before.before.before.before.before.before.before.before.before.args.scratch.now (omega (arith, ltb-false)))
+    sym (length-take-le c.before.before.before.before.before.before.before.word_index.result c.before.before.before.before.before.before.before.before.before.before.before.before.before.before.args.scratch.now (omega (arith, ltb-false)))
 
 slice-relend-prefix-join-with-2 : tie.Need-slice-relend-prefix-join-with-2
 slice-relend-prefix-join-with-2 c = search rules

@@ -3,7 +3,7 @@ use mathlib.Core.Path.{◌≡◌}
 use native.Mathlib.Omega.{arith}
 use borrow.Author.Rules.{rules}
 use Rattle.tables.specs.Catalogs.{AttributesTogether}
-use Rattle.tables.proofs.Widths.{none_yet, one-mask-more}
+use Rattle.tables.proofs.Widths.{none_yet, one-mask_more}
 use Rattle.tables.proofs.attributes_of.Statement.{statement}
 use Rattle.tables.proofs.attributes_of.Tie as tie
 
@@ -31,7 +31,7 @@ loop-less c = search rules
 loop-again : tie.Need-loop-preserved invariant-loop decreases-loop
 loop-again c =
     let s = c.before.before in
-    (search rules, one-mask-more s.before.args.masks.now s.loop.i s.loop.all (omega arith) s.loop.invariant.1)
+    (search rules, one-mask_more s.before.args.masks.now s.loop.i s.loop.all (omega arith) s.loop.invariant.1)
 
 returns : tie.Need-returns invariant-loop decreases-loop
 returns c = let inv = c.before.loop.invariant in let e : c.before.loop.i ≡ c.before.before.args.count = omega arith in rw e at inv.1

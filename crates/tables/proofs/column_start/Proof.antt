@@ -1,5 +1,5 @@
 use native.Mathlib.Omega.{arith}
-use Rattle.tables.proofs.Columns.{values-before, column-inside, column-place}
+use Rattle.tables.proofs.Columns.{values_before, column-inside, column-place}
 use borrow.Author.Rules.{rules}
 use Rattle.tables.proofs.column_start.Statement.{statement}
 use Rattle.tables.proofs.column_start.Tie as tie
@@ -11,13 +11,13 @@ cast-result : tie.Need-overflow-cast-result
 cast-result c = search rules
 
 mul-result : tie.Need-overflow-mul-result
-mul-result c = omega (arith, values-before _ _ _ _ _ _ c.before.before.requires c.ones_below.ensures)
+mul-result c = omega (arith, values_before _ _ _ _ _ _ c.before.before.requires c.ones_below.ensures)
 
 mul-result-2 : tie.Need-overflow-mul-result-2
-mul-result-2 c = omega (arith, values-before _ _ _ _ _ _ c.before.before.requires c.ones_below.ensures)
+mul-result-2 c = omega (arith, values_before _ _ _ _ _ _ c.before.before.requires c.ones_below.ensures)
 
 cast-result-2 : tie.Need-overflow-cast-result-2
-cast-result-2 c = omega (arith, values-before _ _ _ _ _ _ c.before.before.requires c.ones_below.ensures)
+cast-result-2 c = omega (arith, values_before _ _ _ _ _ _ c.before.before.requires c.ones_below.ensures)
 
 add-result : tie.Need-overflow-add-result
 add-result c = omega (arith, column-inside _ _ _ _ _ _ c.before.before.requires c.ones_below.ensures)

@@ -1,12 +1,12 @@
 use native.Mathlib.Omega.{arith}
 use lib.ListN.{length-take, length-drop}
-use Rattle.tables.proofs.CopyColumns.{none-held, copies-read}
+use Rattle.tables.proofs.CopyColumns.{none_held, copies-read}
 use borrow.Author.Rules.{rules}
 use Rattle.tables.proofs.copies.Statement.{statement}
 use Rattle.tables.proofs.copies.Tie as tie
 
 returns : tie.Need-returns
-returns c = none-held _ _ _ c.if1.true
+returns c = none_held _ _ _ c.if1.true
 
 sub_word : tie.Need-overflow-sub-word
 sub_word c = omega (arith, c.before.before.requires (omega arith))

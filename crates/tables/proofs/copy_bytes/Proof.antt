@@ -1,4 +1,4 @@
-use Rattle.semantics.specs.Files.{copyBytes}
+use Rattle.semantics.specs.Files.{copy_bytes}
 use borrow.Author.Rules.{rules}
 use Rattle.tables.proofs.copy_bytes.Statement.{statement}
 use Rattle.tables.proofs.copy_bytes.Tie as tie
@@ -7,12 +7,12 @@ mul-result : tie.Need-overflow-mul-result
 mul-result c = search rules
 
 returns : tie.Need-returns
-unfolding copyBytes
-returns c = rw (c.if1.true, copyBytes)
+unfolding copy_bytes
+returns c = rw (c.if1.true, copy_bytes)
 
 returns-2 : tie.Need-returns-2
-unfolding copyBytes
-returns-2 c = rw (c.if1.false, copyBytes)
+unfolding copy_bytes
+returns-2 c = rw (c.if1.false, copy_bytes)
 
 pub copy-bytes-spec : {M : Type 1} → statement M
 copy-bytes-spec = tie.close (tie.spec mul-result returns returns-2)

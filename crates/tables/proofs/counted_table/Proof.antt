@@ -1,4 +1,4 @@
-use Rattle.tables.proofs.CountedTables.{counted-in, counted-out}
+use Rattle.tables.proofs.CountedTables.{counted_in, counted-out}
 use borrow.Author.Rules.{rules}
 use Rattle.tables.proofs.counted_table.Statement.{statement}
 use Rattle.tables.proofs.counted_table.Tie as tie
@@ -25,10 +25,10 @@ add-t13 : tie.Need-overflow-add-t13
 add-t13 c = search rules
 
 returns : tie.Need-returns
-returns c = counted-in _ _ _ _ _ _ c.before.copies-fit.ensures c.if1.true
+returns c = counted_in _ _ _ _ _ _ c.before.copies_fit.ensures c.if1.true
 
 returns-2 : tie.Need-returns-2
-returns-2 c = counted-out _ _ _ _ _ _ c.before.copies-fit.ensures c.if1.false
+returns-2 c = counted-out _ _ _ _ _ _ c.before.copies_fit.ensures c.if1.false
 
 pub counted-table-spec : {M : Type 1} → statement M
 counted-table-spec =

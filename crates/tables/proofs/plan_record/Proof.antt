@@ -1,4 +1,4 @@
-use Rattle.tables.proofs.PlanRecords.{plan-short, plan-cut, plan-over, plan-exact}
+use Rattle.tables.proofs.PlanRecords.{plan-short, plan-cut, plan_over, plan_exact}
 use borrow.Author.Rules.{rules}
 use Rattle.tables.proofs.plan_record.Statement.{statement}
 use Rattle.tables.proofs.plan_record.Tie as tie
@@ -34,13 +34,13 @@ add-t10 : tie.Need-overflow-add-t10
 add-t10 c = search rules
 
 returns-3 : tie.Need-returns-3
-returns-3 c = plan-over _ _ _ c.before.before.index.ensures.0 c.before.before.before.before.if1.false c.if3.true
+returns-3 c = plan_over _ _ _ c.before.before.index.ensures.0 c.before.before.before.before.if1.false c.if3.true
 
 add-t5 : tie.Need-overflow-add-t5
 add-t5 c = search rules
 
 returns-4 : tie.Need-returns-4
-returns-4 c = plan-exact _ _ _ c.before.before.index.ensures.0 c.before.before.before.before.before.before.requires c.before.if2.false c.if3.false
+returns-4 c = plan_exact _ _ _ c.before.before.index.ensures.0 c.before.before.before.before.before.before.requires c.before.if2.false c.if3.false
 
 pub plan-record-spec : {M : Type 1} → statement M
 plan-record-spec =

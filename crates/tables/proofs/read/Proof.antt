@@ -22,14 +22,14 @@ enum-known-record : tie.Need-enum-known-record invariant-loop decreases-loop
 enum-known-record c = search rules
 
 returns : tie.Need-returns invariant-loop decreases-loop
-returns c = at_last _ _ _ c.before.before.before.before.loop.invariant _ c.before.before.before.next-record.ensures _ c.before.«record».given.1
+returns c = at_last _ _ _ c.before.before.before.before.loop.invariant _ c.before.before.before.next_record.ensures _ c.before.«record».given.1
 
 enum-known-record-2 : tie.Need-enum-known-record-2 invariant-loop decreases-loop
 enum-known-record-2 c = search rules
 
 took : (c : tie.After-known-told2 invariant-loop decreases-loop)
     → Taken c.before.before.before.before.before.before.args.file.now c.before.before.before.before.loop.at c.before.before.before.before.loop.catalog c.before.record2.given.0.0 c.before.record2.given.0.1.0 c.before.record2.given.0.1.1.0 c.before.record2.given.0.1.1.1.0 c.before.record2.given.0.1.1.1.1.0
-took c = at_table _ _ _ c.before.before.before.before.loop.invariant _ c.before.before.before.next-record.ensures _ _ _ _ _ c.before.record2.given.1
+took c = at_table _ _ _ c.before.before.before.before.loop.invariant _ c.before.before.before.next_record.ensures _ _ _ _ _ c.before.record2.given.1
 
 mul-catalog : tie.Need-overflow-mul-catalog invariant-loop decreases-loop
 mul-catalog c = omega (arith, took c)

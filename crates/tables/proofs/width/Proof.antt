@@ -19,7 +19,7 @@ cast-result c = search rules
 returns : tie.Need-returns
 returns c =
     let s = c.before.before.before.before.before in
-    c.ones.ensures ∙ width_is _ s.read.result s.read.ensures _ c.before.attributes-of.ensures
+    c.ones.ensures ∙ width_is _ s.read.result s.read.ensures _ c.before.attributes_of.ensures
 
 pub width_spec : {M : Type 1} → statement M
 width_spec = tie.close (tie.spec read-requires attributes-of-requires ones-requires cast-result returns)

@@ -5,7 +5,7 @@ use lib.ListN.{length, drop, replicate, length-set}
 use borrow.Author.Fill.{fill_more}
 use borrow.Author.Rules.{rules}
 use native.Mathlib.Omega.{arith}
-use Rattle.words.specs.Arrays.{zerosThen}
+use Rattle.words.specs.Arrays.{zeros_then}
 use Rattle.words.proofs.clear_first.Statement.{statement}
 use Rattle.words.proofs.clear_first.Tie as tie
 
@@ -43,7 +43,7 @@ same_length : tie.Need-same-length invariant-loop decreases-loop
 same_length c = search rules
 
 returns : tie.Need-returns invariant-loop decreases-loop
-unfolding zerosThen
+unfolding zeros_then
 returns c =
     let inv = c.before.loop.invariant in
     let e : c.before.loop.i ≡ c.before.before.args.n = omega arith in

@@ -2,7 +2,7 @@ use Prim.Native.Nat.{◌-◌}
 use native.Mathlib.Omega.{arith}
 use lib.ListN.{length}
 use borrow.Author.Rules.{rules}
-use Rattle.words.proofs.SameWords.{other_length, other_word, SameTo, same_none, same_more, same-all}
+use Rattle.words.proofs.SameWords.{other_length, other_word, SameTo, same_none, same_more, same_all}
 use Rattle.words.proofs.same_words.Statement.{statement}
 use Rattle.words.proofs.same_words.Tie as tie
 
@@ -43,7 +43,7 @@ loop-again : tie.Need-loop-preserved invariant-loop decreases-loop
 loop-again c = same_more c.before.before.before.before.loop.invariant c.if2.false
 
 returns-3 : tie.Need-returns-3 invariant-loop decreases-loop
-returns-3 c = same-all c.before.loop.invariant (omega arith)
+returns-3 c = same_all c.before.loop.invariant (omega arith)
 
 pub same-words-spec : {M : Type 1} → statement M
 same-words-spec =

@@ -22,7 +22,7 @@ same-length-3 : tie.Need-same-length-3
 same-length-3 c = search rules
 
 returns : tie.Need-returns
-returns c = let o = c.before.before.before.before.before.before.before.before.before.before.before.before.before.before.before.before.before.before in compared _ _ c.before.before.before.before.before.before.before.before.before.before.before.pigrozd-join.ensures (rw o.requires c.before.before.before.before.before.pigrozd-slow-join.ensures) c.comparison-of.ensures
+returns c = let o = c.before.before.before.before.before.before.before.before.before.before.before.before.before.before.before.before.before.before in compared _ _ c.before.before.before.before.before.before.before.before.before.before.before.pigrozd_join.ensures (rw o.requires c.before.before.before.before.before.pigrozd_slow_join.ensures) c.comparison_of.ensures
 
 pub compare-spec : {M : Type 1} → statement M
 compare-spec =

@@ -4,7 +4,7 @@ use mathlib.Core.Logic.{⊎_elim}
 use borrow.Author.Rules.{rules}
 use Rattle.theory.proofs.Cases.{true-false}
 use Rattle.elimination.specs.Parents.{Uncovered}
-use Rattle.elimination.proofs.Covering.{uncovered-begun, uncovered-all, uncovered-more, covered-here}
+use Rattle.elimination.proofs.Covering.{uncovered-begun, uncovered_all, uncovered_more, covered_here}
 use Rattle.elimination.proofs.parents.first_covering.Statement.{statement}
 use Rattle.elimination.proofs.parents.first_covering.Tie as tie
 
@@ -28,7 +28,7 @@ element-copy-out-if3 c = search rules
 
 returns : tie.Need-returns invariant-loop decreases-loop
 returns c =
-    sym (covered-here c.before.before.before.before.before.before.loop.invariant c.before.before.before.before.before.loop-test.true c.before.before.before.if1.true c.before.before.if2.true c.if3.true)
+    sym (covered_here c.before.before.before.before.before.before.loop.invariant c.before.before.before.before.before.loop-test.true c.before.before.before.if1.true c.before.before.if2.true c.if3.true)
 
 add-c : tie.Need-overflow-add-c invariant-loop decreases-loop
 add-c c = search rules
@@ -40,11 +40,11 @@ loop-again : tie.Need-loop-preserved invariant-loop decreases-loop
 loop-again c =
     let g = c.before.before.before.loop.invariant in
     let l = c.before.before.loop-test.true in
-    uncovered-more g l
+    uncovered_more g l
     (λ f d e. ⊎_elim (λ w. w.3.left e) (λ w. ⊎_elim (λ v. d v.1.left) (λ v. true-false _ f v.left) w) c.if1.branch)
 
 returns-2 : tie.Need-returns-2 invariant-loop decreases-loop
-returns-2 c = sym (uncovered-all c.before.loop.invariant c.loop-test.false)
+returns-2 c = sym (uncovered_all c.before.loop.invariant c.loop-test.false)
 
 pub first-covering-spec : {M : Type 1} → statement M
 first-covering-spec =

@@ -3,7 +3,7 @@ use mathlib.Core.Logic.{⊎_elim}
 use borrow.Author.Rules.{rules}
 use Rattle.theory.proofs.Cases.{true-false}
 use Rattle.elimination.specs.Parents.{Gathered}
-use Rattle.elimination.proofs.Covering.{gathered-begun, gathered-gone, gathered-more, gathered-all}
+use Rattle.elimination.proofs.Covering.{gathered-begun, gathered_gone, gathered_more, gathered_all}
 use Rattle.elimination.proofs.parents.others.Statement.{statement}
 use Rattle.elimination.proofs.parents.others.Tie as tie
 
@@ -36,12 +36,12 @@ loop-again c =
     let g = c.before.before.before.loop.invariant in
     let l = c.before.before.loop-test.true in
     ⊎_elim
-    (λ w. rw w.3 (gathered-more g l w.0.taken w.1.taken))
-    (λ w. ⊎_elim (λ v. rw v.2 (gathered-gone g l (λ f. v.1.left))) (λ v. rw v.1 (gathered-gone g l (λ f. absurd (true-false _ f v.0.left)))) w)
+    (λ w. rw w.3 (gathered_more g l w.0.taken w.1.taken))
+    (λ w. ⊎_elim (λ v. rw v.2 (gathered_gone g l (λ f. v.1.left))) (λ v. rw v.1 (gathered_gone g l (λ f. absurd (true-false _ f v.0.left)))) w)
     c.if1.branch
 
 returns : tie.Need-returns invariant-loop decreases-loop
-returns c = gathered-all c.before.loop.invariant c.loop-test.false
+returns c = gathered_all c.before.loop.invariant c.loop-test.false
 
 pub others-spec : {M : Type 1} → statement M
 others-spec =

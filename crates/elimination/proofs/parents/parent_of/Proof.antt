@@ -1,6 +1,6 @@
 use mathlib.Core.Path.{◌∙◌}
 use borrow.Author.Rules.{rules}
-use Rattle.elimination.proofs.Covering.{parent-test}
+use Rattle.elimination.proofs.Covering.{parent_test}
 use Rattle.elimination.proofs.parents.parent_of.Statement.{statement}
 use Rattle.elimination.proofs.parents.parent_of.Tie as tie
 
@@ -17,7 +17,7 @@ first-covering-requires : tie.Need-first-covering-requires
 first-covering-requires c κs = search rules
 
 returns : tie.Need-returns
-returns c = λ S M. c.first-covering.ensures ∙ parent-test _ c.before.before.before.args.rest.now _ _ _ S M c.before.before.before.requires.0 c.before.before.before.requires.1 c.before.before.others.ensures
+returns c = λ S M. c.first_covering.ensures ∙ parent_test _ c.before.before.before.args.rest.now _ _ _ S M c.before.before.before.requires.0 c.before.before.before.requires.1 c.before.before.others.ensures
 
 pub parent-of-spec : {M : Type 1} → statement M
 parent-of-spec =

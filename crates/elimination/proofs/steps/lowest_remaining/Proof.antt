@@ -2,7 +2,7 @@ use Prim.Native.Nat.{◌-◌}
 use mathlib.Core.Path.{sym}
 use borrow.Author.Rules.{rules}
 use Rattle.elimination.specs.Steps.{Gone}
-use Rattle.elimination.proofs.Hanging.{gone-begun, gone-more, gone-here, gone-all}
+use Rattle.elimination.proofs.Hanging.{gone-begun, gone_more, gone_here, gone_all}
 use Rattle.elimination.proofs.steps.lowest_remaining.Statement.{statement}
 use Rattle.elimination.proofs.steps.lowest_remaining.Tie as tie
 
@@ -19,7 +19,7 @@ element-copy-out-if1 : tie.Need-element-copy-out-if1 invariant-loop decreases-lo
 element-copy-out-if1 c = search rules
 
 returns : tie.Need-returns invariant-loop decreases-loop
-returns c = sym (gone-here c.before.before.before.loop.invariant c.before.before.loop-test.true c.if1.true)
+returns c = sym (gone_here c.before.before.before.loop.invariant c.before.before.loop-test.true c.if1.true)
 
 add-t : tie.Need-overflow-add-t invariant-loop decreases-loop
 add-t c = search rules
@@ -28,10 +28,10 @@ loop-less : tie.Need-loop-smaller invariant-loop decreases-loop
 loop-less c = search rules
 
 loop-again : tie.Need-loop-preserved invariant-loop decreases-loop
-loop-again c = gone-more c.before.before.before.loop.invariant c.before.before.loop-test.true c.if1.false
+loop-again c = gone_more c.before.before.before.loop.invariant c.before.before.loop-test.true c.if1.false
 
 returns-2 : tie.Need-returns-2 invariant-loop decreases-loop
-returns-2 c = sym (gone-all c.before.loop.invariant c.loop-test.false)
+returns-2 c = sym (gone_all c.before.loop.invariant c.loop-test.false)
 
 pub lowest-remaining-spec : {M : Type 1} → statement M
 lowest-remaining-spec =

@@ -5,7 +5,7 @@ use mathlib.Core.Logic.{⊎_elim}
 use native.Mathlib.Omega.{arith}
 use borrow.Author.Rules.{rules}
 use Rattle.elimination.specs.Writing.{Planning}
-use Rattle.elimination.proofs.Written.{joins-fit, table_fits, planning-begun, planning-later, planning-size, planning-skip, child-writable, planning-more, planning-all}
+use Rattle.elimination.proofs.Written.{joins_fit, table_fits, planning-begun, planning-later, planning-size, planning-skip, child_writable, planning_more, planning_all}
 use borrow.Fn.Kinds.{In}
 use borrow.Fn.PlainCycle.{Measures, is, falls, and}
 use Rattle.elimination.proofs.writing.write_plan.Reads as write-plan
@@ -42,16 +42,16 @@ write-plan-claims t = (
 )
 
 write-plan-write-joins-requires : (t : ℕ) → write-plan-lts.Need-write-joins-requires (write-plan-claims t) (write-plan-at t) write-plan.Post write-plan-Inv-loop write-plan-μ-loop
-write-plan-write-joins-requires t c κs = let q = c.before.requires.1 in (q.1.few, q.0, omega (arith, joins-fit q.1))
+write-plan-write-joins-requires t c κs = let q = c.before.requires.1 in (q.1.few, q.0, omega (arith, joins_fit q.1))
 
 write-plan-cast-code : (t : ℕ) → write-plan-lts.Need-overflow-cast-code (write-plan-claims t) (write-plan-at t) write-plan.Post write-plan-Inv-loop write-plan-μ-loop
 write-plan-cast-code t c = search rules
 
 write-plan-element-write-code : (t : ℕ) → write-plan-lts.Need-element-write-code (write-plan-claims t) (write-plan-at t) write-plan.Post write-plan-Inv-loop write-plan-μ-loop
-write-plan-element-write-code t c = table_fits c.before.before.requires.1.1 c.write-joins.ensures
+write-plan-element-write-code t c = table_fits c.before.before.requires.1.1 c.write_joins.ensures
 
 write-plan-add-next : (t : ℕ) → write-plan-lts.Need-overflow-add-next (write-plan-claims t) (write-plan-at t) write-plan.Post write-plan-Inv-loop write-plan-μ-loop
-write-plan-add-next t c = omega (arith, table_fits c.before.before.requires.1.1 c.write-joins.ensures)
+write-plan-add-next t c = omega (arith, table_fits c.before.before.requires.1.1 c.write_joins.ensures)
 
 write-plan-loop-holds : (t : ℕ) → write-plan-lts.Need-loop-init (write-plan-claims t) (write-plan-at t) write-plan.Post write-plan-Inv-loop write-plan-μ-loop
 write-plan-loop-holds t c = λ old p. p
@@ -65,8 +65,8 @@ write-plan-element-copy-out-if1 t c = search rules
 write-plan-write-plan-requires : (t : ℕ) → write-plan-lts.Need-write-plan-requires (write-plan-claims t) (write-plan-at t) write-plan.Post write-plan-Inv-loop write-plan-μ-loop
 write-plan-write-plan-requires t c κs =
     let q = c.before.before.before.before.before.before.before.requires.1 in
-    let p = c.before.before.before.before.loop.invariant c.before.before.before.before.before.before.before.args.code.now (planning-begun q.1 c.before.before.before.before.before.write-joins.ensures q.0) in
-    (omega (arith, c.before.before.before.before.before.before.before.requires.0, planning-later q.1 p, joins-fit q.1), (planning-size q.1 p ∙ q.0, child-writable q.1 p c.before.before.before.loop-test.true c.before.if1.true))
+    let p = c.before.before.before.before.loop.invariant c.before.before.before.before.before.before.before.args.code.now (planning-begun q.1 c.before.before.before.before.before.write_joins.ensures q.0) in
+    (omega (arith, c.before.before.before.before.before.before.before.requires.0, planning-later q.1 p, joins_fit q.1), (planning-size q.1 p ∙ q.0, child_writable q.1 p c.before.before.before.loop-test.true c.before.if1.true))
 
 write-plan-add-c : (t : ℕ) → write-plan-lts.Need-overflow-add-c (write-plan-claims t) (write-plan-at t) write-plan.Post write-plan-Inv-loop write-plan-μ-loop
 write-plan-add-c t c = search rules
@@ -79,12 +79,12 @@ write-plan-loop-again t c = λ old p.
     let q = c.before.before.before.before.before.before.requires.1 in
     let g = c.before.before.before.loop.invariant old p in
     let l = c.before.before.loop-test.true in
-    ⊎_elim (λ w. rw (w.3, w.4) (planning-more q.1 g l w.0.taken w.2.ensures)) (λ w. rw (w.1, w.2) (planning-skip q.1 g l w.0.left)) c.if1.branch
+    ⊎_elim (λ w. rw (w.3, w.4) (planning_more q.1 g l w.0.taken w.2.ensures)) (λ w. rw (w.1, w.2) (planning-skip q.1 g l w.0.left)) c.if1.branch
 
 write-plan-returns : (t : ℕ) → write-plan-lts.Need-returns (write-plan-claims t) (write-plan-at t) write-plan.Post write-plan-Inv-loop write-plan-μ-loop
 write-plan-returns t c =
     let q = c.before.before.before.before.requires.1 in
-    planning-all q.1 (c.before.loop.invariant c.before.before.before.before.args.code.now (planning-begun q.1 c.before.before.write-joins.ensures q.0)) c.loop-test.false
+    planning_all q.1 (c.before.loop.invariant c.before.before.before.before.args.code.now (planning-begun q.1 c.before.before.write_joins.ensures q.0)) c.loop-test.false
 
 pub +write-plan-spec : {M : Type 1} → statement M
 +write-plan-spec = close μ-write-plan λ t. write-plan-lts.spec (write-plan-claims t)

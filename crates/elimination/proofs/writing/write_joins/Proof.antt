@@ -3,7 +3,7 @@ use mathlib.Core.Logic.{⊎_elim}
 use native.Mathlib.Omega.{arith}
 use borrow.Author.Rules.{rules}
 use Rattle.elimination.specs.Writing.{Joining}
-use Rattle.elimination.proofs.Written.{joining-begun, joining-skip, joining-room, joining-more, joining-all}
+use Rattle.elimination.proofs.Written.{joining-begun, joining-skip, joining-room, joining_more, joining_all}
 use Rattle.elimination.proofs.writing.write_joins.Statement.{statement}
 use Rattle.elimination.proofs.writing.write_joins.Tie as tie
 
@@ -35,10 +35,10 @@ loop-less : tie.Need-loop-smaller invariant-loop decreases-loop
 loop-less c = search rules
 
 loop-again : tie.Need-loop-preserved invariant-loop decreases-loop
-loop-again c = ⊎_elim (λ w. let g = c.before.before.before.loop.invariant in let l = c.before.before.loop-test.true in rw (w.1, w.2) (joining-more g l w.0.taken (omega (arith, joining-room g l w.0.taken c.before.before.before.before.requires.2, c.before.before.before.before.requires.1)))) (λ w. rw (w.1, w.2) (joining-skip c.before.before.before.loop.invariant c.before.before.loop-test.true w.0.left)) c.if1.branch
+loop-again c = ⊎_elim (λ w. let g = c.before.before.before.loop.invariant in let l = c.before.before.loop-test.true in rw (w.1, w.2) (joining_more g l w.0.taken (omega (arith, joining-room g l w.0.taken c.before.before.before.before.requires.2, c.before.before.before.before.requires.1)))) (λ w. rw (w.1, w.2) (joining-skip c.before.before.before.loop.invariant c.before.before.loop-test.true w.0.left)) c.if1.branch
 
 returns : tie.Need-returns invariant-loop decreases-loop
-returns c = joining-all c.before.loop.invariant c.loop-test.false
+returns c = joining_all c.before.loop.invariant c.loop-test.false
 
 pub write-joins-spec : {M : Type 1} → statement M
 write-joins-spec =

@@ -4,7 +4,7 @@ use borrow.Author.Rules.{rules}
 use native.Mathlib.Omega.{arith}
 use lib.ListN.{length, take, drop, length-set}
 use mathlib.Core.List.{◌++◌}
-use Rattle.mending.proofs.Hangs.{copy_more, copy-none}
+use Rattle.mending.proofs.Hangs.{copy_more, copy_none}
 use Rattle.mending.proofs.hanging.copy_part.Statement.{statement}
 use Rattle.mending.proofs.hanging.copy_part.Tie as tie
 
@@ -15,7 +15,7 @@ abbrev decreases-loop : tie.decreases-loop
 decreases-loop source from count out₀ to k₀ out k = count - k
 
 loop-holds : tie.Need-loop-init invariant-loop decreases-loop
-loop-holds c = (c.requires.2, omega arith, copy-none c.args.source.now c.args.out.now c.args.from c.args.to)
+loop-holds c = (c.requires.2, omega arith, copy_none c.args.source.now c.args.out.now c.args.from c.args.to)
 
 add-out : tie.Need-overflow-add-out invariant-loop decreases-loop
 add-out c = search rules

@@ -16,13 +16,13 @@ mul-result : tie.Need-overflow-mul-result
 mul-result c = search rules
 
 element-copy-out-result : tie.Need-element-copy-out-result
-element-copy-out-result c = omega (arith, c.index.ensures.0, ltb-true c.before.before.before.args.b 16 (sym c.before.before.is-table.ensures ∙ c.before.if1.true))
+element-copy-out-result c = omega (arith, c.index.ensures.0, ltb-true c.before.before.before.args.b 16 (sym c.before.before.is_table.ensures ∙ c.before.if1.true))
 
 returns : tie.Need-returns
-returns c = tested _ _ c.before.before.before.before.args.b _ c.before.index.ensures.0 (ltb-true c.before.before.before.before.args.b 16 (sym c.before.before.before.is-table.ensures ∙ c.before.before.if1.true))
+returns c = tested _ _ c.before.before.before.before.args.b _ c.before.index.ensures.0 (ltb-true c.before.before.before.before.args.b 16 (sym c.before.before.before.is_table.ensures ∙ c.before.before.if1.true))
 
 returns-2 : tie.Need-returns-2
-returns-2 c = sym (held-mark _ _ c.before.before.args.b (ltb-false c.before.before.args.b 16 (sym c.before.is-table.ensures ∙ c.if1.false)))
+returns-2 c = sym (held-mark _ _ c.before.before.args.b (ltb-false c.before.before.args.b 16 (sym c.before.is_table.ensures ∙ c.if1.false)))
 
 pub holds-spec : {M : Type 1} → statement M
 holds-spec =

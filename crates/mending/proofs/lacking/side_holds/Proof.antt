@@ -1,4 +1,4 @@
-use Rattle.mending.proofs.Lacks.{holds-first}
+use Rattle.mending.proofs.Lacks.{holds_first}
 use borrow.Author.Rules.{rules}
 use Rattle.mending.proofs.lacking.side_holds.Statement.{statement}
 use Rattle.mending.proofs.lacking.side_holds.Tie as tie
@@ -19,7 +19,7 @@ sub-result : tie.Need-overflow-sub-result
 sub-result c = search rules
 
 returns : tie.Need-returns
-returns c = λ p h. holds-first c.before.before.before.args.masks.now c.before.before.before.args.side.key c.before.before.before.args.code.now c.before.before.before.args.side.start c.before.before.before.args.side.end c.first-holder.result p h c.first-holder.ensures
+returns c = λ p h. holds_first c.before.before.before.args.masks.now c.before.before.before.args.side.key c.before.before.before.args.code.now c.before.before.before.args.side.start c.before.before.before.args.side.end c.first_holder.result p h c.first_holder.ensures
 
 pub side-holds-spec : {M : Type 1} → statement M
 side-holds-spec =

@@ -1,4 +1,4 @@
-use Rattle.mending.proofs.Sides.{sided-right, sided-left}
+use Rattle.mending.proofs.Sides.{sided_right, sided_left}
 use borrow.Author.Rules.{rules}
 use Rattle.mending.proofs.parts.side_of.Statement.{statement}
 use Rattle.mending.proofs.parts.side_of.Tie as tie
@@ -46,10 +46,10 @@ add-t27 : tie.Need-overflow-add-t27
 add-t27 c = search rules
 
 returns : tie.Need-returns
-returns c = λ s masks q x y m e u v. rw c.before.if1.true (sided-right s masks c.before.before.before.before.before.args.ends.now c.before.before.before.before.before.args.sets.now _ q x y m e u v)
+returns c = λ s masks q x y m e u v. rw c.before.if1.true (sided_right s masks c.before.before.before.before.before.args.ends.now c.before.before.before.before.before.args.sets.now _ q x y m e u v)
 
 returns-2 : tie.Need-returns-2
-returns-2 c = λ s masks q x y m e u v. rw c.if1.false (sided-left s masks c.before.before.before.before.args.ends.now c.before.before.before.before.args.sets.now _ q x y m e u v)
+returns-2 c = λ s masks q x y m e u v. rw c.if1.false (sided_left s masks c.before.before.before.before.args.ends.now c.before.before.before.before.args.sets.now _ q x y m e u v)
 
 pub side-of-spec : {M : Type 1} → statement M
 side-of-spec =

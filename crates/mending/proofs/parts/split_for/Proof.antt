@@ -1,4 +1,4 @@
-use Rattle.mending.proofs.Sides.{split-left, split-right}
+use Rattle.mending.proofs.Sides.{split_left, split_right}
 use borrow.Author.Rules.{rules}
 use Rattle.mending.proofs.parts.split_for.Statement.{statement}
 use Rattle.mending.proofs.parts.split_for.Tie as tie
@@ -58,10 +58,10 @@ sub-t30 : tie.Need-overflow-sub-t30
 sub-t30 c = search rules
 
 returns : tie.Need-returns
-returns c = λ s masks q x y m e u v. split-left s masks c.before.before.before.before.before.args.ends.now c.before.before.before.before.before.args.sets.now _ q x y m e u v _ c.if1.true
+returns c = λ s masks q x y m e u v. split_left s masks c.before.before.before.before.before.args.ends.now c.before.before.before.before.before.args.sets.now _ q x y m e u v _ c.if1.true
 
 returns-2 : tie.Need-returns-2
-returns-2 c = λ s masks q x y m e u v. split-right s masks c.before.before.before.before.before.args.ends.now c.before.before.before.before.before.args.sets.now _ q x y m e u v _ c.if1.false
+returns-2 c = λ s masks q x y m e u v. split_right s masks c.before.before.before.before.before.args.ends.now c.before.before.before.before.before.args.sets.now _ q x y m e u v _ c.if1.false
 
 pub split-for-spec : {M : Type 1} → statement M
 split-for-spec =

@@ -2,8 +2,8 @@ use Prim.Native.Nat.{◌-◌, ◌≤◌}
 use lib.ListN.{length}
 use borrow.Author.Rules.{rules}
 use native.Mathlib.Omega.{arith}
-use Rattle.mending.proofs.Bytes.{spanned-planned}
-use Rattle.mending.proofs.Sides.{SurveyedTo, survey-begun, survey-more, survey-done}
+use Rattle.mending.proofs.Bytes.{spanned_planned}
+use Rattle.mending.proofs.Sides.{SurveyedTo, survey-begun, survey_more, survey_done}
 use Rattle.mending.proofs.parts.survey.Statement.{statement}
 use Rattle.mending.proofs.parts.survey.Tie as tie
 
@@ -17,7 +17,7 @@ loop-holds : tie.Need-loop-init invariant-loop decreases-loop
 loop-holds c = (survey-begun _ _ _ _ c.before.requires.2 c.before.requires.3, omega arith)
 
 part-at-requires : tie.Need-part-at-requires invariant-loop decreases-loop
-part-at-requires c κs = (c.before.before.before.requires.0, spanned-planned _ _ c.before.before.before.requires.1 c.loop-test.true)
+part-at-requires c κs = (c.before.before.before.requires.0, spanned_planned _ _ c.before.before.before.requires.1 c.loop-test.true)
 
 mul-ends : tie.Need-overflow-mul-ends invariant-loop decreases-loop
 mul-ends c = let w = c.before.before.before.before.requires.1.short in omega (arith, w)
@@ -38,10 +38,10 @@ loop-less : tie.Need-loop-smaller invariant-loop decreases-loop
 loop-less c = search rules
 
 loop-again : tie.Need-loop-preserved invariant-loop decreases-loop
-loop-again c = let l = c.before.before.loop in (survey-more _ _ l.ends l.sets l.i c.part-at.result (let w = c.before.before.before.before.requires.1.short in omega (arith, w)) l.invariant.0 c.part-at.ensures, omega arith)
+loop-again c = let l = c.before.before.loop in (survey_more _ _ l.ends l.sets l.i c.part_at.result (let w = c.before.before.before.before.requires.1.short in omega (arith, w)) l.invariant.0 c.part_at.ensures, omega arith)
 
 returns : tie.Need-returns invariant-loop decreases-loop
-returns c = let l = c.before.loop in survey-done _ _ _ _ l.i (omega arith) l.invariant.0
+returns c = let l = c.before.loop in survey_done _ _ _ _ l.i (omega arith) l.invariant.0
 
 pub survey-spec : {M : Type 1} → statement M
 survey-spec =

@@ -2,7 +2,7 @@ use native.Mathlib.Omega.{arith}
 use Rattle.theory.proofs.Reading.{bytes_of}
 use Rattle.words.proofs.Parts.{rest}
 use Rattle.scheduling.proofs.Whole.{nothing_is}
-use Rattle.plans.proofs.Verdicts.{catalogued, file-refused, plan-inside, file-planned}
+use Rattle.plans.proofs.Verdicts.{catalogued, file-refused, plan-inside, file_planned}
 use borrow.Author.Rules.{rules}
 use Rattle.plans.proofs.admission.rule.Statement.{statement}
 use Rattle.plans.proofs.admission.rule.Tie as tie
@@ -33,7 +33,7 @@ returns c = rw c.refusal.ensures (file-refused _ _ c.before.before.before.before
 
 returns-2 : tie.Need-returns-2
 returns-2 c = let file = c.before.before.before.before.before.before.before.before.before.args.file.now in
-    file-planned file _ c.before.before.before.before.before.before.before.before.before.requires.0 (bytes_of file (λ i. omega (arith, c.before.before.before.before.before.before.before.before.shared-slice-known.given i))) _ _ c.before.before.before.before.before.end2.given.1 _ (rw (rest file c.before.before.before.before.before.end2.given.0.0) at c.admit-plan.ensures)
+    file_planned file _ c.before.before.before.before.before.before.before.before.before.requires.0 (bytes_of file (λ i. omega (arith, c.before.before.before.before.before.before.before.before.shared-slice-known.given i))) _ _ c.before.before.before.before.before.end2.given.1 _ (rw (rest file c.before.before.before.before.before.end2.given.0.0) at c.admit_plan.ensures)
 
 pub rule-spec : {M : Type 1} → statement M
 rule-spec =

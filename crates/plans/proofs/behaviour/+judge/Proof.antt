@@ -3,7 +3,7 @@ use lib.ListN.{length}
 use borrow.Author.Rules.{rules}
 use native.Mathlib.Omega.{arith}
 use Rattle.mending.proofs.Places.{starts, no_other, left, right, left-ends}
-use Rattle.plans.proofs.Judging.{one_table, two-plans, left-index, right-index}
+use Rattle.plans.proofs.Judging.{one_table, two_plans, left_index, right_index}
 use Prim.Native.Nat.{ℕ, ◌<◌}
 use borrow.Fn.Kinds.{In}
 use borrow.Fn.PlainCycle.{Measures, is, falls, and}
@@ -52,16 +52,16 @@ judge-judge-requires-2 t c κs = let q = c.before.before.before.before.requires.
     )
 
 judge-mul-behaves : (t : ℕ) → judge-lts.Need-overflow-mul-behaves (judge-claims t) (judge-at t) judge.Post
-judge-mul-behaves t c = omega (arith, left-index _ _ _ c.before.before.match.keys1 _ c.before.judge.ensures c.before.before.before.before.before.requires.1)
+judge-mul-behaves t c = omega (arith, left_index _ _ _ c.before.before.match.keys1 _ c.before.judge.ensures c.before.before.before.before.before.requires.1)
 
 judge-element-copy-out-behaves : (t : ℕ) → judge-lts.Need-element-copy-out-behaves (judge-claims t) (judge-at t) judge.Post
-judge-element-copy-out-behaves t c = omega (arith, left-index _ _ _ c.before.before.match.keys1 _ c.before.judge.ensures c.before.before.before.before.before.requires.1)
+judge-element-copy-out-behaves t c = omega (arith, left_index _ _ _ c.before.before.match.keys1 _ c.before.judge.ensures c.before.before.before.before.before.requires.1)
 
 judge-mul-behaves-2 : (t : ℕ) → judge-lts.Need-overflow-mul-behaves-2 (judge-claims t) (judge-at t) judge.Post
-judge-mul-behaves-2 t c = omega (arith, right-index _ _ _ c.before.before.before.match.keys1 _ c.before.before.judge.ensures c.before.before.before.before.before.before.requires.1 _ c.before.judge2.ensures)
+judge-mul-behaves-2 t c = omega (arith, right_index _ _ _ c.before.before.before.match.keys1 _ c.before.before.judge.ensures c.before.before.before.before.before.before.requires.1 _ c.before.judge2.ensures)
 
 judge-element-copy-out-behaves-2 : (t : ℕ) → judge-lts.Need-element-copy-out-behaves-2 (judge-claims t) (judge-at t) judge.Post
-judge-element-copy-out-behaves-2 t c = omega (arith, right-index _ _ _ c.before.before.before.match.keys1 _ c.before.before.judge.ensures c.before.before.before.before.before.before.requires.1 _ c.before.judge2.ensures)
+judge-element-copy-out-behaves-2 t c = omega (arith, right_index _ _ _ c.before.before.before.match.keys1 _ c.before.before.judge.ensures c.before.before.before.before.before.before.requires.1 _ c.before.judge2.ensures)
 
 judge-behaves-requires : (t : ℕ) → judge-lts.Need-behaves-requires (judge-claims t) (judge-at t) judge.Post
 judge-behaves-requires t c κs = search rules
@@ -81,7 +81,7 @@ judge-add-t28 t c = omega (arith, starts _ _ c.before.before.before.before.befor
 judge-returns : (t : ℕ) → judge-lts.Need-returns (judge-claims t) (judge-at t) judge.Post
 judge-returns t c = λ p e h.
     rw c.before.before.behaves.ensures
-    (two-plans _ _ _ c.before.before.before.before.before.before.before.match.keys1 _ _ c.before.before.before.before.before.before.judge.ensures c.before.before.before.before.before.judge2.ensures p e h)
+    (two_plans _ _ _ c.before.before.before.before.before.before.before.match.keys1 _ _ c.before.before.before.before.before.before.judge.ensures c.before.before.before.before.before.judge2.ensures p e h)
 
 judge-returns-2 : (t : ℕ) → judge-lts.Need-returns-2 (judge-claims t) (judge-at t) judge.Post
 judge-returns-2 t c = λ p e h. one_table _ _ _ c.before.before.before.match.rest.1 _ c.before.index.ensures.0 p e h

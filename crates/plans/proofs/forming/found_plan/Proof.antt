@@ -1,4 +1,4 @@
-use Rattle.plans.proofs.Formed.{searchable, found-refused, found-formed}
+use Rattle.plans.proofs.Formed.{searchable, found-refused, found_formed}
 use borrow.Author.Rules.{rules}
 use Rattle.plans.proofs.forming.found_plan.Statement.{statement}
 use Rattle.plans.proofs.forming.found_plan.Tie as tie
@@ -13,10 +13,10 @@ enum-known-search-2 : tie.Need-enum-known-search-2
 enum-known-search-2 c = search rules
 
 returns : tie.Need-returns
-returns c = λ ts h l. found-refused _ ts h l _ _ _ c.before.before.before.find-plan.ensures _ c.before.search.given.1
+returns c = λ ts h l. found-refused _ ts h l _ _ _ c.before.before.before.find_plan.ensures _ c.before.search.given.1
 
 returns-2 : tie.Need-returns-2
-returns-2 c = λ ts h l. found-formed _ ts h l _ _ _ c.before.before.before.find-plan.ensures _ c.before.search2.given.1
+returns-2 c = λ ts h l. found_formed _ ts h l _ _ _ c.before.before.before.find_plan.ensures _ c.before.search2.given.1
 
 pub found-plan-spec : {M : Type 1} → statement M
 found-plan-spec =

@@ -2,7 +2,7 @@ use Prim.Native.Nat.{◌-◌}
 use lib.ListN.{length}
 use borrow.Author.Rules.{rules}
 use native.Mathlib.Omega.{arith}
-use Rattle.plans.proofs.Reading.{read_past, read_table, read-other, read_join, read-join-bad}
+use Rattle.plans.proofs.Reading.{read_past, read_table, read_other, read_join, read-join_bad}
 use Prim.Native.Nat.{ℕ, ◌<◌}
 use borrow.Fn.Kinds.{In}
 use borrow.Fn.PlainCycle.{Measures, is, falls, and}
@@ -47,7 +47,7 @@ read-plan-enum-known-left : (t : ℕ) → read-plan-lts.Need-enum-known-left (re
 read-plan-enum-known-left t c = search rules
 
 read-plan-read-plan-requires-2 : (t : ℕ) → read-plan-lts.Need-read-plan-requires-2 (read-plan-claims t) (read-plan-at t) read-plan.Post
-read-plan-read-plan-requires-2 t c κs = let l = c.before.before.before.read-plan.ensures.later _ c.before.left.given.1 in (omega arith, tt)
+read-plan-read-plan-requires-2 t c κs = let l = c.before.before.before.read_plan.ensures.later _ c.before.left.given.1 in (omega arith, tt)
 
 read-plan-enum-known-left-2 : (t : ℕ) → read-plan-lts.Need-enum-known-left-2 (read-plan-claims t) (read-plan-at t) read-plan.Post
 read-plan-enum-known-left-2 t c = search rules
@@ -63,7 +63,7 @@ read-plan-returns-2 :
     (read-plan-below t, read-plan.Post)
     (read-plan-at t)
     read-plan.Post
-read-plan-returns-2 t c = read_join _ _ c.before.before.before.before.before.before.before.if1.false c.before.before.before.before.before.match.keys1 _ c.before.before.before.before.read-plan.ensures _ c.before.before.left.given.1 _ c.read-plan2.ensures
+read-plan-returns-2 t c = read_join _ _ c.before.before.before.before.before.before.before.if1.false c.before.before.before.before.before.match.keys1 _ c.before.before.before.before.read_plan.ensures _ c.before.before.left.given.1 _ c.read-plan2.ensures
 
 read-plan-returns-3 :
     (t : ℕ) →
@@ -71,7 +71,7 @@ read-plan-returns-3 :
     (read-plan-below t, read-plan.Post)
     (read-plan-at t)
     read-plan.Post
-read-plan-returns-3 t c = read-join-bad _ _ c.before.before.before.before.before.before.if1.false c.before.before.before.before.match.keys1 _ c.before.before.before.read-plan.ensures _ c.before.left2.given.1
+read-plan-returns-3 t c = read-join_bad _ _ c.before.before.before.before.before.before.if1.false c.before.before.before.before.match.keys1 _ c.before.before.before.read_plan.ensures _ c.before.left2.given.1
 
 read-plan-returns-4 :
     (t : ℕ) →
@@ -87,7 +87,7 @@ read-plan-returns-5 :
     (read-plan-below t, read-plan.Post)
     (read-plan-at t)
     read-plan.Post
-read-plan-returns-5 t c = read-other _ _ c.before.before.before.if1.false c.if2.false c.before.match.rest.1
+read-plan-returns-5 t c = read_other _ _ c.before.before.before.if1.false c.if2.false c.before.match.rest.1
 
 pub +read-plan-spec : {M : Type 1} → statement M
 +read-plan-spec =
