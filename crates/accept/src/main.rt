@@ -1,5 +1,7 @@
 // The program of acceptance days: joins the file on standard input with both engines, each with an output of its own, and prints
 // whether they agree.
+#![tactic(auto)]
+
 mod comparing;
 
 use comparing::{Compared, Comparison, compare};

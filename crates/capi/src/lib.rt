@@ -1,4 +1,6 @@
 // The join for callers in C and in other languages: include/pigrozd.h declares what is here.
+#![tactic(auto)]
+
 ghost use Rattle.capi.specs.Calls.{Calls};
 
 // The answer of a call as document 01's seven numbers.

@@ -1,4 +1,6 @@
 // Results by number for callers in C and in other languages: include/pigrozd.h declares what is here.
+#![tactic(auto)]
+
 ghost use Rattle.capi_access.specs.Calls.{ResultCalls, NumberCalls};
 
 // The answer of a call for result number n: number, detail, and the row number of each table with the copy of that row.

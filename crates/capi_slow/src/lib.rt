@@ -1,4 +1,6 @@
 // The slow engine for callers in C and in other languages: include/pigrozd.h declares what is here.
+#![tactic(auto)]
+
 ghost use Rattle.capi_slow.specs.Calls.{SlowCalls};
 
 // The answer of a call as request U5's three numbers.

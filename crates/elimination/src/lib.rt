@@ -1,5 +1,7 @@
 // Request U4, "files without a plan": the bytes of the plan that is found for tables whose file gives none. Loops over tables alone; no
 // attribute value is read.
+#![tactic(auto)]
+
 mod parents;
 mod steps;
 mod writing;

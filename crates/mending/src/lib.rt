@@ -1,4 +1,6 @@
 // Request U2, "mend the plans our optimiser sends": the bytes of the mended plan. No attribute value is read.
+#![tactic(auto)]
+
 mod hanging;
 mod lacking;
 mod parts;

@@ -1,4 +1,6 @@
 // Joins the file on standard input and prints the result.
+#![tactic(auto)]
+
 fn main() {
     let mut file = [0u8; 65537];
     let n = io::read_full(0, &mut file);

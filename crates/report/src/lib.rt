@@ -2,6 +2,8 @@
 // written out when they are full and at the end.
 //
 // No contract can say what is written. Each index is tested here, so nothing rests on what the join promises.
+#![tactic(auto)]
+
 ghost use Rattle.report.specs.Calls.{Called};
 
 // An answer as numbers.

@@ -2,6 +2,8 @@
 // buffers hold afterwards; then results by their numbers, with the way back. A sample is a file of data/: two 4-byte numbers, the words
 // of scratch and of output to lend, and then the file to join. tests/make_samples.py writes the samples, the arguments and the output
 // expected.
+#![tactic(auto)]
+
 ghost use Rattle.std.specs.Prelude.{◌≡◌, length};
 
 use capi_access::pigrozd_result_answer;

@@ -1,4 +1,6 @@
 // The records of a file, read one after the other into a catalog: answers 1 to 6 and 19. Only `value` reads an attribute value.
+#![tactic(auto)]
+
 ghost use Rattle.std.specs.Prelude.{◌≡◌, true, ◌&&◌, not, ◌+◌, ◌*◌, ◌-◌, ◌<◌, ◌≤◌, min, length, drop, get_or, eqb};
 ghost use Rattle.semantics.specs.Files.{word_at, table_with, column_start, copy_bytes, copies_out, next_table, plan_record};
 ghost use Rattle.semantics.specs.Shapes.{output_fits};

@@ -1,1 +1,2 @@
 // No code: this crate holds the words of the theorems (specs/) and the theorems (proofs/).
+#![tactic(auto)]

@@ -1,4 +1,6 @@
 // Words of a byte slice, bits of a mask, numbers of two words, sums and products held at the limit, words zeroed and compared.
+#![tactic(auto)]
+
 ghost use Rattle.std.specs.Prelude.{◌≡◌, ◌+◌, ◌<◌, ◌≤◌, length};
 ghost use Rattle.semantics.specs.Lists.{same};
 ghost use Rattle.semantics.specs.Files.{word_at, has_bit, ones_below, arity};
