@@ -1,12 +1,12 @@
 -- Demand 2's bag meaning: each tuple stands in the result as often as the product of its repeats, and no other does.
-use mathlib.Core.Path.{◌≡◌, refl, sym, ap, ap₂, ◌∙◌, fun_ext}
+use mathlib.Core.Path.{◌≡◌, refl, sym, ap, ap₂, subst, ◌∙◌, fun_ext}
 use mathlib.Core.Bool.{Bool, true, ◌&&◌, ◌||◌, not, and-true, and-false}
 use mathlib.Core.List.{List, [], ◌∷◌, ◌++◌, map}
 use Prim.Native.Nat.{ℕ, ◌*◌}
 use native.Mathlib.Nat.{mul-one}
 use lib.ListN.{length, take, length-map}
 use lib.Dec.{eqb}
-use borrow.Author.Tests.{eqb-true}
+use borrow.Author.Tests.{eqb-true, eq-eqb}
 use Rattle.theory.specs.Elements.{Each}
 use Rattle.semantics.specs.Lists.{same, all, any, filter, cons_if, non_empty, several, sum, product, concat_map, up_to, head_of}
 use Rattle.semantics.specs.Plans.{Plan, scan, join, tables}
@@ -29,10 +29,13 @@ one-attribute : (w : ℕ) (vs : List ℕ) (b A : Bool) (ks ts : List ℕ) (R : B
     → (values_agree vs && A && same (cons_if b w ks) (take 1 vs ++ ts)) ≡ ((all (eqb w) vs && (not (several vs) || recorded w)) && R)
 one-attribute w [] b A ks ts R h e = rw (← h) e
 one-attribute w (z ∷ zs) b A ks ts R h e =
-    rw (← h, ← e, agree-recorded z zs)
-    (cases (eqb w z)
-    (λ g. rw g (rw (eqb-true w z g) (cases (all (eqb z) zs && (not (non_empty zs) || recorded z)) (λ x. rw x) (λ x. rw x))))
-    (λ g. rw g (and-false (all (eqb z) zs && (not (non_empty zs) || recorded z) && A))))
+    cases (eqb w z)
+    (λ g. subst
+        (λ u. (values_agree (z ∷ zs) && A && same (cons_if b u ks) (z ∷ ts)) ≡ ((all (eqb u) (z ∷ zs) && (not (several (z ∷ zs)) || recorded u)) && R))
+        (sym (eqb-true w z g))
+        (rw (← h, ← e, agree-recorded z zs, eq-eqb z z refl)
+            (cases (all (eqb z) zs && (not (non_empty zs) || recorded z)) (λ x. rw x) (λ x. rw x))))
+    (λ g. rw (← h, ← e, agree-recorded z zs) (rw g (and-false (all (eqb z) zs && (not (non_empty zs) || recorded z) && A))))
 
 first-value : (vs : List ℕ) (b : Bool) (ts : List ℕ) → non_empty vs ≡ b → take 1 vs ++ ts ≡ cons_if b (head_of vs) ts
 first-value [] b ts h = rw (← h)

@@ -1,5 +1,5 @@
 -- Request U2, "the cheapest": one of the tables, no table costs less, and each one named before it costs more.
-use mathlib.Core.Path.{◌≡◌, refl, sym, ap, ◌∙◌}
+use mathlib.Core.Path.{◌≡◌, refl, sym, ap, subst, ◌∙◌}
 use mathlib.Core.Bool.{true}
 use mathlib.Core.List.{List, [], ◌∷◌, ◌++◌}
 use Prim.Native.Nat.{ℕ, ◌≤◌, ◌<◌}
@@ -23,12 +23,25 @@ pub cheapest_each : (P : ℕ → Type 0) (f : ℕ → ℕ) (xs : List ℕ) → n
 cheapest_each P f [] n e = let z : ◌≡◌ {A = ℕ} 0 1 = cc in absurd (omega arith)
 cheapest_each P f (x ∷ xs) n e = first_least_each P f x xs e.0 e.1
 
+-- what the first least of all is, if it is z
+least-along : (f : ℕ → ℕ) (x y : ℕ) (ys : List ℕ) (z : ℕ) → first_least f x (y ∷ ys) ≡ z → f z ≤ f x → f z ≤ f y → Each (λ u. f z ≤ f u) ys
+    → (f (first_least f x (y ∷ ys)) ≤ f x) × Each (λ u. f (first_least f x (y ∷ ys)) ≤ f u) (y ∷ ys)
+least-along f x y ys z e a b c = subst (λ v. (f v ≤ f x) × Each (λ u. f v ≤ f u) (y ∷ ys)) (sym e) (a, (b, c))
+
 first_least_least : (f : ℕ → ℕ) (x : ℕ) (ys : List ℕ) → (f (first_least f x ys) ≤ f x) × Each (λ y. f (first_least f x ys) ≤ f y) ys
 first_least_least f x [] = (omega arith, tt)
 first_least_least f x (y ∷ ys) =
     cases (ltb (f y) (f x))
-    (λ h. let (a, b) = first_least_least f y ys in let g : f y < f x = ltb-true (f y) (f x) h in rw (h, first_least) (omega arith, (a, b)))
-    (λ h. let (a, b) = first_least_least f x ys in let g : f x ≤ f y = ltb-false (f y) (f x) h in rw (h, first_least) (a, (omega arith, b)))
+    (λ h.
+        let (a, b) = first_least_least f y ys in
+        let g : f y < f x = ltb-true (f y) (f x) h in
+        let e : first_least f x (y ∷ ys) ≡ first_least f y ys = rw (h, first_least) in
+        least-along f x y ys (first_least f y ys) e (omega arith) a b)
+    (λ h.
+        let (a, b) = first_least_least f x ys in
+        let g : f x ≤ f y = ltb-false (f y) (f x) h in
+        let e : first_least f x (y ∷ ys) ≡ first_least f x ys = rw (h, first_least) in
+        least-along f x y ys (first_least f x ys) e a (omega arith) b)
 
 -- and none is cheaper
 pub cheapest_least : (f : ℕ → ℕ) (xs : List ℕ) → Each (λ y. f (cheapest f xs) ≤ f y) xs
