@@ -7,7 +7,7 @@ use capi_slow::pigrozd_slow_answer;
 
 // Same: both answers and both outputs are equal. Skipped: they need not be, since the join says 10 or the slow engine 15. Differ: they
 // need to be and are not, which never happens.
-#[derive(Drop)]
+#[derive(Clone, Copy)]
 pub enum Comparison {
     Same,
     Skipped,
@@ -15,7 +15,7 @@ pub enum Comparison {
 }
 
 // Both answers, and what comes of their comparison.
-#[derive(Drop)]
+#[derive(Clone, Copy)]
 pub struct Compared {
     pub joined: pigrozd_answer,
     pub slow: pigrozd_slow_answer,

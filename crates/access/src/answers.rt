@@ -4,7 +4,7 @@ ghost use Rattle.semantics.specs.Access.{no_rows};
 
 // Number and detail, and the row number of each table with the copy of that row, by table number: 0 past the last table, and after a
 // refusal.
-#[derive(Drop)]
+#[derive(Clone, Copy)]
 pub struct ResultAnswer {
     pub number: u32,
     pub detail: usize,
@@ -13,7 +13,7 @@ pub struct ResultAnswer {
 }
 
 // Number and detail, and the number of the result: 0 after a refusal.
-#[derive(Drop)]
+#[derive(Clone, Copy)]
 pub struct NumberAnswer {
     pub number: u32,
     pub detail: usize,

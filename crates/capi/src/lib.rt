@@ -5,7 +5,7 @@ ghost use Rattle.capi.specs.Calls.{Calls};
 
 // The answer of a call as document 01's seven numbers.
 #[repr(C)]
-#[derive(Drop)]
+#[derive(Clone, Copy)]
 pub struct pigrozd_answer {
     pub number: u64,
     pub detail: u64,

@@ -5,7 +5,7 @@ ghost use Rattle.capi_access.specs.Calls.{ResultCalls, NumberCalls};
 
 // The answer of a call for result number n: number, detail, and the row number of each table with the copy of that row.
 #[repr(C)]
-#[derive(Drop)]
+#[derive(Clone, Copy)]
 pub struct pigrozd_result_answer {
     pub number: u64,
     pub detail: u64,
@@ -15,7 +15,7 @@ pub struct pigrozd_result_answer {
 
 // The answer of a call for the number of a result: number, detail, and n.
 #[repr(C)]
-#[derive(Drop)]
+#[derive(Clone, Copy)]
 pub struct pigrozd_number_answer {
     pub number: u64,
     pub detail: u64,

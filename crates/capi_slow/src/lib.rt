@@ -5,7 +5,7 @@ ghost use Rattle.capi_slow.specs.Calls.{SlowCalls};
 
 // The answer of a call as request U5's three numbers.
 #[repr(C)]
-#[derive(Drop)]
+#[derive(Clone, Copy)]
 pub struct pigrozd_slow_answer {
     pub number: u64,
     pub detail: u64,

@@ -15,7 +15,7 @@ use crate::writing::write_plan;
 
 // What a search ends with: the length of the plan, whose bytes stand at the front of the lent ones; or the lowest-numbered table that
 // remains where none can be hung.
-#[derive(Drop)]
+#[derive(Clone, Copy)]
 pub enum Search {
     Plan(usize),
     Stuck(usize),

@@ -3,7 +3,7 @@ ghost use Rattle.std.specs.Prelude.{◌≡◌, ◌<◌, ◌≤◌};
 ghost use Rattle.elimination.specs.Parents.{remaining, OthersHave, first_covering, parent_found, ParentIn};
 
 // The table under which one hangs, where there is one.
-#[derive(Drop)]
+#[derive(Clone, Copy)]
 pub enum Parent {
     Under(usize),
     Nowhere,

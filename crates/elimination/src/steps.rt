@@ -7,7 +7,7 @@ ghost use Rattle.elimination.specs.Steps.{NextIn, Shaped, HungAll};
 use crate::parents::{Parent, parent_of};
 
 // The table that hangs next and the one under which it hangs, where there is one.
-#[derive(Drop)]
+#[derive(Clone, Copy)]
 pub enum NextHanging {
     Hang(usize, usize),
     Nothing,
@@ -33,7 +33,7 @@ fn next_hanging(masks: &[u32; 16], rest: &[bool; 16], count: usize) -> NextHangi
 
 // Where the repeated step ends: the root, or the lowest table that remains where none can be hung; and the table under which
 // each hangs, 16 for one that does not.
-#[derive(Drop)]
+#[derive(Clone, Copy)]
 pub struct Hung {
     pub stuck: bool,
     pub table: usize,

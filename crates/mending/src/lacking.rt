@@ -8,7 +8,7 @@ use crate::hanging::first_holder;
 use crate::parts::{Side, side_of};
 
 // The index of a byte, where there is one.
-#[derive(Drop)]
+#[derive(Clone, Copy)]
 pub enum Found {
     At(usize),
     Nothing,

@@ -5,14 +5,14 @@ ghost use Rattle.mending.specs.Places.{PlanAt, Planned};
 ghost use Rattle.mending.specs.Parts.{MaskWords, Parted, Surveyed, Spanned, SideFor, Spaced, SplitFor};
 
 // A plan inside the plan: the attributes of its tables, and the index behind it.
-#[derive(Drop)]
+#[derive(Clone, Copy)]
 pub struct Part {
     pub attributes: u32,
     pub next: usize,
 }
 
 // A side of a join: where its plan begins and ends, the join attributes, and where its root is remembered.
-#[derive(Drop)]
+#[derive(Clone, Copy)]
 pub struct Side {
     pub start: usize,
     pub end: usize,
@@ -22,7 +22,7 @@ pub struct Side {
 
 // A join, for a root: whether the root lies left; where the side that names it begins and how many bytes that has; the same of the
 // other side; the join attributes.
-#[derive(Drop)]
+#[derive(Clone, Copy)]
 pub struct Split {
     pub left: bool,
     pub own: usize,

@@ -8,7 +8,7 @@ use crate::hanging::holds;
 use crate::parts::{side_of, split_for};
 
 // The cheapest table so far, by the index of its byte, and what it costs.
-#[derive(Drop)]
+#[derive(Clone, Copy)]
 pub struct Candidate {
     pub place: usize,
     pub cost: usize,

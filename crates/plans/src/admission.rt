@@ -17,7 +17,7 @@ use scheduling::{Extent, ORDER, schedule_of, words_needed};
 use tables::{Catalog, Contents, End};
 
 // Refused with a number and its detail, or admitted.
-#[derive(Drop)]
+#[derive(Clone, Copy)]
 pub enum Verdict {
     Refused(u32, usize),
     Admitted,
@@ -25,7 +25,7 @@ pub enum Verdict {
 
 // What answers 7 and 8 leave: refused with a number and its detail; or a plan that is followed as it was sent; or one that is formed,
 // since it is not well-behaved or there is none.
-#[derive(Drop)]
+#[derive(Clone, Copy)]
 pub enum Check {
     Refused(u32, usize),
     AsSent,
@@ -33,7 +33,7 @@ pub enum Check {
 }
 
 // The verdict; the tables read before it; and how much is scheduled: nothing where the file is refused.
-#[derive(Drop)]
+#[derive(Clone, Copy)]
 pub struct Admission {
     pub verdict: Verdict,
     pub catalog: Catalog,
@@ -41,7 +41,7 @@ pub struct Admission {
 }
 
 // The verdict, and how much is scheduled: nothing where the file is refused.
-#[derive(Drop)]
+#[derive(Clone, Copy)]
 pub struct Ruling {
     pub verdict: Verdict,
     pub extent: Extent,

@@ -7,7 +7,7 @@ ghost use Rattle.plans.specs.Judging.{behaves_by, well_behaved, Judged};
 ghost use Rattle.words.specs.Masks.{Masked};
 
 // A plan inside the plan: the attributes of its tables, its leftmost table, the index behind it, and whether it is well-behaved.
-#[derive(Drop)]
+#[derive(Clone, Copy)]
 pub struct Subplan {
     pub attributes: u32,
     pub leftmost: usize,

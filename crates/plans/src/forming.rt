@@ -9,7 +9,7 @@ use mending::Found;
 use tables::Catalog;
 
 // Refused with a number and its detail, or the length of the plan, whose bytes stand at the front of the buffer.
-#[derive(Drop)]
+#[derive(Clone, Copy)]
 pub enum Formed {
     Refused(u32, usize),
     Plan(usize),

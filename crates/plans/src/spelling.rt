@@ -7,7 +7,7 @@ ghost use Rattle.plans.specs.Spelling.{PlanRead};
 use mending::Found;
 
 // Where a plan ends, or the first byte that cannot stand there.
-#[derive(Drop)]
+#[derive(Clone, Copy)]
 pub enum PlanEnd {
     End(usize),
     Bad(usize),

@@ -7,7 +7,7 @@
 ghost use Rattle.report.specs.Calls.{Called};
 
 // An answer as numbers.
-#[derive(Drop)]
+#[derive(Clone, Copy)]
 struct Numbers {
     number: u32,
     detail: usize,

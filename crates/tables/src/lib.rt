@@ -11,7 +11,7 @@ ghost use Rattle.tables.specs.Records.{counted_record};
 
 // The tables of a file, in file order: bit t of `counted` says that table t has a column of copies, and `starts` has the offsets of the
 // tables' first attribute columns. The places past the last table are 0.
-#[derive(Drop)]
+#[derive(Clone, Copy)]
 pub struct Catalog {
     pub counted: usize,
     pub count: usize,
@@ -21,7 +21,7 @@ pub struct Catalog {
 }
 
 // The numbers of a catalog whose lists are lent beside them: its masks, and the two lists of places, which are lent as one.
-#[derive(Drop)]
+#[derive(Clone, Copy)]
 pub struct CatalogHead {
     pub counted: usize,
     pub count: usize,
@@ -34,14 +34,14 @@ pub const ROWS: usize = 0;
 pub const STARTS: usize = 1;
 
 // How the reading ends: a fault with its number and detail, or the plan, whose bytes run from this offset to the file's end.
-#[derive(Drop)]
+#[derive(Clone, Copy)]
 pub enum End {
     Fault(u32, usize),
     Plan(usize),
 }
 
 // What the reading of a file gives.
-#[derive(Drop)]
+#[derive(Clone, Copy)]
 pub struct Contents {
     pub catalog: Catalog,
     pub end: End,
@@ -49,7 +49,7 @@ pub struct Contents {
 
 // One record: the reading ends there, or it is a table, with what the catalog holds of it and the bytes of its record; `counted` is 1
 // for a table with a column of copies, else 0.
-#[derive(Drop)]
+#[derive(Clone, Copy)]
 enum Record {
     Last(End),
     Table {
