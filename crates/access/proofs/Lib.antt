@@ -1,8 +1,5 @@
 pub mod SpineTotals
-pub mod ListPlaces
-pub mod RowCopies
 pub mod ListedRows
-pub mod ListSteps
 pub mod ChosenRows
 pub mod WalkedRows
 pub mod PlacedRows

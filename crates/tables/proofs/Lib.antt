@@ -2,7 +2,6 @@ pub mod PlanRecords
 pub mod TableRecords
 pub mod CountedTables
 pub mod CopyColumns
-pub mod AnyCounted
 pub mod Records
 pub mod Steps
 pub mod CountedBits

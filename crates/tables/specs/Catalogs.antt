@@ -1,5 +1,5 @@
 -- What the code gives for what `semantics` defines: the catalog of tables, the end of a reading, one record.
-use Rattle.std.specs.Prelude.{◌≡◌, Bool, true, false, List, [], map, ℕ, ◌-◌, length, get_or, take, leb}
+use Rattle.std.specs.Prelude.{◌≡◌, Bool, true, false, List, map, ℕ, ◌-◌, length, get_or, take, leb}
 use Rattle.semantics.specs.Lists.{any}
 use Rattle.semantics.specs.Files.{Table, table_with, has_bit, cut_mark, table_mark, plan_mark, other_mark, next_mark, TableRecord, broken, whole}
 use Rattle.semantics.specs.Files.{next_table, Ending, fault, plan_bytes, plan_record, read}
@@ -8,7 +8,6 @@ use Rattle.words.specs.Arrays.{padded}
 use Rattle.theory.specs.Elements.{one_if}
 use Rattle.tables.specs.Copies.{counted_bits, copies_start, CopiesBefore}
 use Rattle.tables.specs.declared.Catalog.{Catalog}
-use Rattle.tables.specs.declared.CatalogHead.{CatalogHead}
 use Rattle.tables.specs.declared.Contents.{Contents}
 use Rattle.tables.specs.declared.End.{End}
 use Rattle.tables.specs.declared.End.TheVariants as end
@@ -24,11 +23,6 @@ catalog_of ts =
       starts = padded (map (λ t. t.start) ts);
       counted = counted_bits ts;
     }
-
--- the catalog that is lent as its numbers, its masks and its places
-abbrev pub catalog_in : CatalogHead → List ℕ → List (List ℕ) → Catalog
-catalog_in head masks places =
-    record { counted = head.counted; count = head.count; masks = masks; rows = get_or places 0 []; starts = get_or places 1 [] }
 
 -- the plan's bytes are the last ones of a file of that many bytes
 abbrev pub end_of : ℕ → Ending → End

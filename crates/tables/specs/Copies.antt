@@ -1,5 +1,5 @@
 -- The copies of a table's rows, by the offset of its column of copies; and the set of tables that have such a column.
-use Rattle.std.specs.Prelude.{◌≡◌, Bool, true, false, ◌||◌, List, [], ◌∷◌, ℕ, zero, suc, ◌+◌, ◌-◌, ◌*◌, ◌<◌, ◌≤◌, length, get_or, eqb, ltb}
+use Rattle.std.specs.Prelude.{◌≡◌, true, false, List, [], ◌∷◌, ℕ, ◌+◌, ◌-◌, ◌*◌, ◌<◌, ◌≤◌, length, eqb}
 use Rattle.semantics.specs.Files.{Table, has_bit, copy_start, copies_at}
 use Rattle.theory.specs.Elements.{one_if}
 use Rattle.tables.specs.Cells.{cell_at}
@@ -34,8 +34,3 @@ pub record CopiesOf (file : List ℕ) (counts : ℕ) (t : Table) : Type 0 where
   pub inside : (y : ℕ) → y < t.rows → CopyInside file counts y
   pub is : (y : ℕ) → y < t.rows → copies_in file counts y ≡ copies_at file t y
   pub some : (y : ℕ) → y < t.rows → 1 ≤ copies_at file t y
-
--- whether one of n tables has copies, by the offsets of their columns of copies, 0 for none
-abbrev pub any_counted : List ℕ → ℕ → Bool
-any_counted offsets zero = false
-any_counted offsets (suc n) = ltb 0 (get_or offsets n 0) || any_counted offsets n

@@ -9,29 +9,16 @@ ghost use Rattle.tables.specs.Catalogs.{end_of, table_of, limited_table, record_
 ghost use Rattle.tables.specs.Copies.{copies_start, CopiesBefore, copies_in, CopyInside};
 ghost use Rattle.tables.specs.Records.{counted_record};
 
-// The tables of a file, in file order: bit t of `counted` says that table t has a column of copies, and `starts` has the offsets of the
-// tables' first attribute columns. The places past the last table are 0.
+// The tables of a file, in file order: `starts` has the offsets of their first attribute columns, and bit t of `counted` says that
+// table t has a column of copies. The places past the last table are 0.
 #[derive(Clone, Copy)]
 pub struct Catalog {
-    pub counted: usize,
     pub count: usize,
     pub masks: [u32; 16],
     pub rows: [usize; 16],
     pub starts: [usize; 16],
-}
-
-// The numbers of a catalog whose lists are lent beside them: its masks, and the two lists of places, which are lent as one.
-#[derive(Clone, Copy)]
-pub struct CatalogHead {
     pub counted: usize,
-    pub count: usize,
 }
-
-// The places of a catalog: the rows of its tables.
-pub const ROWS: usize = 0;
-
-// The offsets of their first attribute columns.
-pub const STARTS: usize = 1;
 
 // How the reading ends: a fault with its number and detail, or the plan, whose bytes run from this offset to the file's end.
 #[derive(Clone, Copy)]
@@ -201,11 +188,11 @@ pub fn read(file: &[u8]) -> Contents
     ensures { result ≡ contents_of file.now }
 {
     let mut catalog = Catalog {
-        counted: 0,
         count: 0,
         masks: [0u32; 16],
         rows: [0usize; 16],
         starts: [0usize; 16],
+        counted: 0,
     };
     let mut at = 0;
     loop {

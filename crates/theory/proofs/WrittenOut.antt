@@ -86,9 +86,9 @@ module _ (D : Base) (few : FewCopies D) where
   rising_all t = rising-pairs D few t (up_to (D.shape.rows t)) (rising_from 0 (D.shape.rows t))
 
 -- every base can be written out
-pub row_per-pair : (D : Base) → WrittenOut D (row_per_pair D)
+pub row_per_pair_lem : (D : Base) → WrittenOut D (row_per_pair D)
 unfolding row_per_pair
-row_per-pair D = record { has = λ t a. refl; rows = λ t. refl; once = λ t y h. refl; values = λ t a y h. refl }
+row_per_pair_lem D = record { has = λ t a. refl; rows = λ t. refl; once = λ t y h. refl; values = λ t a y h. refl }
 
 module _ (D E : Base) (few : FewCopies D) (w : WrittenOut D E) where
   -- ---- choices
