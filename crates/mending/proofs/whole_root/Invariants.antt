@@ -1,0 +1,17 @@
+use mathlib.Core.Path.{sym, ◌∙◌}
+use mathlib.Core.Logic.{⊎_elim}
+use borrow.Author.Tests.{ltb-true, ltb-false}
+use Rattle.mending.proofs.WholePlans.{whole-begun, whole-mark, whole_taken, whole_done, whole_buildable}
+use Prim.Native.Nat.{◌-◌, ◌≤◌}
+use lib.ListN.{length}
+use borrow.Author.Rules.{rules}
+use native.Mathlib.Omega.{arith}
+use Rattle.mending.specs.Rooting.{RootsRemembered}
+use Rattle.mending.specs.Whole.{WholeSearched}
+use Rattle.mending.proofs.whole_root.Given as goal
+
+abbrev pub invariant-loop-n : goal.invariant-loop-n
+invariant-loop-n l = RootsRemembered l.code l.masks l.rows l.best × WholeSearched l.code l.masks l.rows l.n l.pick × (l.n ≤ length l.code)
+
+abbrev pub decreases-loop-n : goal.decreases-loop-n
+decreases-loop-n l = length l.code - l.n

@@ -1,0 +1,5 @@
+use borrow.Author.Rules.{rules}
+use Rattle.plans.proofs.admission.admit.Goals as goal
+
+pub returns : goal.returns
+returns c = c.rule-ruling.ensures

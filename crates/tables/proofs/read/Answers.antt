@@ -1,0 +1,52 @@
+use Prim.Native.Nat.{◌-◌}
+use lib.ListN.{length}
+use borrow.Author.Rules.{rules}
+use native.Mathlib.Omega.{arith}
+use Rattle.tables.proofs.ReadTo.{ReadTo, begun, Taken, at_last, at_table}
+use Rattle.tables.proofs.read.Goals as goal
+
+took : (c : tie.After-known-told2 invariant-loop decreases-loop)
+    → Taken c.before.before.before.before.before.before.args.file.now c.before.before.before.before.loop.at c.before.before.before.before.loop.catalog c.before.record2.given.0.0 c.before.record2.given.0.1.0 c.before.record2.given.0.1.1.0 c.before.record2.given.0.1.1.1.0 c.before.record2.given.0.1.1.1.1.0
+took c = at_table _ _ _ c.before.before.before.before.loop.invariant _ c.before.before.before.next_record.ensures _ _ _ _ _ c.before.record2.given.1
+
+pub loop-end-init : goal.loop-end-init
+loop-end-init c = begun _
+
+pub returns-in-Last : goal.returns-in-Last
+returns-in-Last c = at_last _ _ _ c.loop-end.invariant _ c.next_record-record.ensures _ c.before.«record».given.1
+
+pub offset_bounds-catalog-n : goal.offset_bounds-catalog-n
+offset_bounds-catalog-n c = omega (arith, took c)
+
+pub bounds-catalog-n : goal.bounds-catalog-n
+bounds-catalog-n c = omega (arith, took c)
+
+pub offset_bounds-catalog-n-in-Table : goal.offset_bounds-catalog-n-in-Table
+offset_bounds-catalog-n-in-Table c = omega (arith, took c)
+
+pub bounds-catalog-n-in-Table : goal.bounds-catalog-n-in-Table
+bounds-catalog-n-in-Table c = omega (arith, took c)
+
+pub offset_bounds-catalog-n-in-Table-2 : goal.offset_bounds-catalog-n-in-Table-2
+offset_bounds-catalog-n-in-Table-2 c = omega (arith, took c)
+
+pub bounds-catalog-n-in-Table-2 : goal.bounds-catalog-n-in-Table-2
+bounds-catalog-n-in-Table-2 c = omega (arith, took c)
+
+pub overflow_shl-catalog : goal.overflow_shl-catalog
+overflow_shl-catalog c = omega (arith, took c)
+
+pub overflow_add-catalog : goal.overflow_add-catalog
+overflow_add-catalog c = omega (arith, (took c).small)
+
+pub overflow_add-catalog-in-Table : goal.overflow_add-catalog-in-Table
+overflow_add-catalog-in-Table c = omega (arith, took c)
+
+pub overflow_add-at : goal.overflow_add-at
+overflow_add-at c = omega (arith, took c)
+
+pub loop-end-smaller : goal.loop-end-smaller
+loop-end-smaller c = omega (arith, took c)
+
+pub loop-end-preserved : goal.loop-end-preserved
+loop-end-preserved c = (took c).again
