@@ -2,6 +2,7 @@ use Prim.Native.Nat.{◌-◌, ◌≤◌}
 use mathlib.Core.Logic.{⊎_elim}
 use native.Mathlib.Omega.{arith}
 use Rattle.tables.proofs.CountedTables.{OutFrom, out-begun, out_none, out_many, out_next, out_all}
+use borrow.Author.Tests.{lt-ltb, le-ltb}
 use Rattle.tables.proofs.copies_fit.Goals as goal
 
 pub loop-row-init : goal.loop-row-init
@@ -14,8 +15,9 @@ pub word-copies-requires : goal.word-copies-requires
 word-copies-requires c = omega arith
 
 pub returns-then-copies-eq0 : goal.returns-then-copies-eq0
-returns-then-copies-eq0 c =     ⊎_elim (λ w. out_none _ _ _ c.loop-row-test.true _ c.word-copies.ensures w.taken c.loop-row.invariant.1)
-    (λ w. out_many _ _ _ c.loop-row-test.true _ c.word-copies.ensures w.1.taken c.loop-row.invariant.1) c.then-copies-eq0.branch
+returns-then-copies-eq0 c =
+    ⊎_elim (λ w. out_none _ _ _ c.loop-row-test.true _ c.word-copies.ensures w c.loop-row.invariant.1)
+    (λ w. out_many _ _ _ c.loop-row-test.true _ c.word-copies.ensures (lt-ltb _ _ w.1) c.loop-row.invariant.1) c.then-copies-eq0.either
 
 pub overflow_add-row : goal.overflow_add-row
 overflow_add-row c = omega arith
@@ -24,7 +26,9 @@ pub loop-row-smaller : goal.loop-row-smaller
 loop-row-smaller c = omega arith
 
 pub loop-row-preserved : goal.loop-row-preserved
-loop-row-preserved c =     (omega arith, out_next _ _ _ c.loop-row-test.true _ c.word-copies.ensures c.if-copies-eq0.false c.if-copies-gt65535.false c.loop-row.invariant.1)
+loop-row-preserved c =
+    (omega arith,
+      out_next _ _ _ c.loop-row-test.true _ c.word-copies.ensures c.if-copies-eq0.false (le-ltb _ _ c.if-copies-gt65535.false) c.loop-row.invariant.1)
 
 pub returns : goal.returns
 returns c = out_all _ _ _ c.loop-row-test.false c.loop-row.invariant.1

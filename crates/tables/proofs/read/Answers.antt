@@ -5,15 +5,15 @@ use native.Mathlib.Omega.{arith}
 use Rattle.tables.proofs.ReadTo.{ReadTo, begun, Taken, at_last, at_table}
 use Rattle.tables.proofs.read.Goals as goal
 
-took : (c : tie.After-known-told2 invariant-loop decreases-loop)
-    → Taken c.before.before.before.before.before.before.args.file.now c.before.before.before.before.loop.at c.before.before.before.before.loop.catalog c.before.record2.given.0.0 c.before.record2.given.0.1.0 c.before.record2.given.0.1.1.0 c.before.record2.given.0.1.1.1.0 c.before.record2.given.0.1.1.1.1.0
-took c = at_table _ _ _ c.before.before.before.before.loop.invariant _ c.before.before.before.next_record.ensures _ _ _ _ _ c.before.record2.given.1
+-- the record that was read, after the tables before it
+took : (c : goal.In-Table) → Taken c.args.file.now c.loop-end.at c.loop-end.catalog c.in-Table.mask c.in-Table.rows c.in-Table.start c.in-Table.counted c.in-Table.size
+took c = at_table _ _ _ c.loop-end.invariant _ c.next_record-record.ensures _ _ _ _ _ c.in-Table.is
 
 pub loop-end-init : goal.loop-end-init
 loop-end-init c = begun _
 
 pub returns-in-Last : goal.returns-in-Last
-returns-in-Last c = at_last _ _ _ c.loop-end.invariant _ c.next_record-record.ensures _ c.before.«record».given.1
+returns-in-Last c = at_last _ _ _ c.loop-end.invariant _ c.next_record-record.ensures _ c.in-Last.is
 
 pub offset_bounds-catalog-n : goal.offset_bounds-catalog-n
 offset_bounds-catalog-n c = omega (arith, took c)
