@@ -31,10 +31,10 @@ one-attribute w [] b A ks ts R h e = rw (← h) e
 one-attribute w (z ∷ zs) b A ks ts R h e =
     cases (eqb w z)
     (λ g. subst
-        (λ u. (values_agree (z ∷ zs) && A && same (cons_if b u ks) (z ∷ ts)) ≡ ((all (eqb u) (z ∷ zs) && (not (several (z ∷ zs)) || recorded u)) && R))
-        (sym (eqb-true w z g))
-        (rw (← h, ← e, agree-recorded z zs, eq-eqb z z refl)
-            (cases (all (eqb z) zs && (not (non_empty zs) || recorded z)) (λ x. rw x) (λ x. rw x))))
+    (λ u. (values_agree (z ∷ zs) && A && same (cons_if b u ks) (z ∷ ts)) ≡ ((all (eqb u) (z ∷ zs) && (not (several (z ∷ zs)) || recorded u)) && R))
+    (sym (eqb-true w z g))
+    (rw (← h, ← e, agree-recorded z zs, eq-eqb z z refl)
+    (cases (all (eqb z) zs && (not (non_empty zs) || recorded z)) (λ x. rw x) (λ x. rw x))))
     (λ g. rw (← h, ← e, agree-recorded z zs) (rw g (and-false (all (eqb z) zs && (not (non_empty zs) || recorded z) && A))))
 
 first-value : (vs : List ℕ) (b : Bool) (ts : List ℕ) → non_empty vs ≡ b → take 1 vs ++ ts ≡ cons_if b (head_of vs) ts

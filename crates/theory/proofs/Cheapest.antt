@@ -33,15 +33,15 @@ first_least_least f x [] = (omega arith, tt)
 first_least_least f x (y ∷ ys) =
     cases (ltb (f y) (f x))
     (λ h.
-        let (a, b) = first_least_least f y ys in
-        let g : f y < f x = ltb-true (f y) (f x) h in
-        let e : first_least f x (y ∷ ys) ≡ first_least f y ys = rw (h, first_least) in
-        least-along f x y ys (first_least f y ys) e (omega arith) a b)
+    let (a, b) = first_least_least f y ys in
+    let g : f y < f x = ltb-true (f y) (f x) h in
+    let e : first_least f x (y ∷ ys) ≡ first_least f y ys = rw (h, first_least) in
+    least-along f x y ys (first_least f y ys) e (omega arith) a b)
     (λ h.
-        let (a, b) = first_least_least f x ys in
-        let g : f x ≤ f y = ltb-false (f y) (f x) h in
-        let e : first_least f x (y ∷ ys) ≡ first_least f x ys = rw (h, first_least) in
-        least-along f x y ys (first_least f x ys) e a (omega arith) b)
+    let (a, b) = first_least_least f x ys in
+    let g : f x ≤ f y = ltb-false (f y) (f x) h in
+    let e : first_least f x (y ∷ ys) ≡ first_least f x ys = rw (h, first_least) in
+    least-along f x y ys (first_least f x ys) e a (omega arith) b)
 
 -- and none is cheaper
 pub cheapest_least : (f : ℕ → ℕ) (xs : List ℕ) → Each (λ y. f (cheapest f xs) ≤ f y) xs

@@ -1,9 +1,5 @@
 use Prim.Native.Nat.{◌-◌, ◌≤◌}
-use mathlib.Core.Path.{◌≡◌}
-use native.Mathlib.Omega.{arith}
-use borrow.Author.Rules.{rules}
 use Rattle.tables.specs.Catalogs.{AttributesTogether}
-use Rattle.tables.proofs.Widths.{none_yet, one-mask_more}
 use Rattle.tables.proofs.attributes_of.Given as goal
 
 abbrev pub invariant-loop-i : goal.invariant-loop-i

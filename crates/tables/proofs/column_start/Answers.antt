@@ -1,6 +1,5 @@
 use native.Mathlib.Omega.{arith}
 use Rattle.tables.proofs.Columns.{values_before, column-inside, column-place}
-use borrow.Author.Rules.{rules}
 use Rattle.tables.proofs.column_start.Goals as goal
 
 pub overflow_mul-result : goal.overflow_mul-result

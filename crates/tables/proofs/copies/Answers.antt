@@ -1,7 +1,6 @@
 use native.Mathlib.Omega.{arith}
 use lib.ListN.{length-take, length-drop}
 use Rattle.tables.proofs.CopyColumns.{none_held, copies-read}
-use borrow.Author.Rules.{rules}
 use Rattle.tables.proofs.copies.Goals as goal
 
 pub returns-then-counts-eq0 : goal.returns-then-counts-eq0

@@ -1,6 +1,5 @@
 use native.Mathlib.Omega.{arith}
 use Rattle.tables.proofs.CountedBits.{bit-set, bit_clear, start_some, start_none}
-use borrow.Author.Rules.{rules}
 use Rattle.tables.proofs.copies_at.Goals as goal
 
 pub overflow_mul-result : goal.overflow_mul-result

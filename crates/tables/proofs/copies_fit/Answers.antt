@@ -1,7 +1,6 @@
-use Prim.Native.Nat.{◌-◌, ◌≤◌}
 use mathlib.Core.Logic.{⊎_elim}
 use native.Mathlib.Omega.{arith}
-use Rattle.tables.proofs.CountedTables.{OutFrom, out-begun, out_none, out_many, out_next, out_all}
+use Rattle.tables.proofs.CountedTables.{out-begun, out_none, out_many, out_next, out_all}
 use borrow.Author.Tests.{lt-ltb, le-ltb}
 use Rattle.tables.proofs.copies_fit.Goals as goal
 
@@ -26,9 +25,10 @@ pub loop-row-smaller : goal.loop-row-smaller
 loop-row-smaller c = omega arith
 
 pub loop-row-preserved : goal.loop-row-preserved
-loop-row-preserved c =
-    (omega arith,
-      out_next _ _ _ c.loop-row-test.true _ c.word-copies.ensures c.if-copies-eq0.false (le-ltb _ _ c.if-copies-gt65535.false) c.loop-row.invariant.1)
+loop-row-preserved c = (
+  omega arith,
+  out_next _ _ _ c.loop-row-test.true _ c.word-copies.ensures c.if-copies-eq0.false (le-ltb _ _ c.if-copies-gt65535.false) c.loop-row.invariant.1,
+)
 
 pub returns : goal.returns
 returns c = out_all _ _ _ c.loop-row-test.false c.loop-row.invariant.1

@@ -1,5 +1,4 @@
 use Rattle.semantics.specs.Files.{copy_bytes}
-use borrow.Author.Rules.{rules}
 use Rattle.tables.proofs.copy_bytes.Goals as goal
 
 pub returns-then-counted : goal.returns-then-counted

@@ -1,5 +1,4 @@
 use Rattle.tables.proofs.CountedTables.{counted_in, counted-out}
-use borrow.Author.Rules.{rules}
 use Rattle.tables.proofs.counted_table.Goals as goal
 
 pub returns-then-copies_fit : goal.returns-then-copies_fit

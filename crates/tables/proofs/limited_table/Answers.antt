@@ -1,6 +1,5 @@
 use mathlib.Core.Path.{sym, ◌∙◌}
 use Rattle.tables.proofs.Records.{limited_full, limited-rules}
-use borrow.Author.Rules.{rules}
 use Rattle.tables.proofs.limited_table.Goals as goal
 
 pub returns-then-count-ge16 : goal.returns-then-count-ge16

@@ -1,5 +1,4 @@
 use borrow.Author.Tests.{eq-eqb, ne_eqb}
-use borrow.Author.Rules.{rules}
 use Rattle.tables.proofs.marked.Goals as goal
 
 pub returns-then-s-at : goal.returns-then-s-at

@@ -1,5 +1,4 @@
 use Rattle.tables.proofs.Records.{record-cut, record-table, record-plan, record-counted, record_other}
-use borrow.Author.Rules.{rules}
 use Rattle.tables.proofs.next_record.Goals as goal
 
 pub returns-then-file-at-lt2 : goal.returns-then-file-at-lt2

@@ -1,5 +1,4 @@
 use Rattle.tables.proofs.PlanRecords.{plan-short, plan-cut, plan_over, plan_exact}
-use borrow.Author.Rules.{rules}
 use Rattle.tables.proofs.plan_record.Goals as goal
 
 pub returns-then-left-lt3 : goal.returns-then-left-lt3

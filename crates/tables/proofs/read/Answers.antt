@@ -1,8 +1,5 @@
-use Prim.Native.Nat.{◌-◌}
-use lib.ListN.{length}
-use borrow.Author.Rules.{rules}
 use native.Mathlib.Omega.{arith}
-use Rattle.tables.proofs.ReadTo.{ReadTo, begun, Taken, at_last, at_table}
+use Rattle.tables.proofs.ReadTo.{begun, Taken, at_last, at_table}
 use Rattle.tables.proofs.read.Goals as goal
 
 -- the record that was read, after the tables before it

@@ -1,8 +1,6 @@
 use Prim.Native.Nat.{◌-◌}
 use lib.ListN.{length}
-use borrow.Author.Rules.{rules}
-use native.Mathlib.Omega.{arith}
-use Rattle.tables.proofs.ReadTo.{ReadTo, begun, Taken, at_last, at_table}
+use Rattle.tables.proofs.ReadTo.{ReadTo}
 use Rattle.tables.proofs.read.Given as goal
 
 abbrev pub invariant-loop-end : goal.invariant-loop-end

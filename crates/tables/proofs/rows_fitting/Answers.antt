@@ -1,7 +1,6 @@
 use mathlib.Core.Path.{ap}
 use Prim.Native.Nat.{◌/◌}
 use Rattle.semantics.specs.Shapes.{output_fits}
-use borrow.Author.Rules.{rules}
 use Rattle.tables.proofs.rows_fitting.Goals as goal
 
 pub returns : goal.returns

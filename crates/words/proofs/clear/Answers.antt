@@ -3,7 +3,6 @@ use mathlib.Core.List.{append-nil}
 use lib.Seq.{drop-length}
 use Rattle.semantics.specs.Outcome.{zeros}
 use Rattle.words.specs.Arrays.{zeros_then}
-use borrow.Author.Rules.{rules}
 use Rattle.words.proofs.clear.Goals as goal
 
 pub returns : goal.returns

@@ -1,7 +1,6 @@
-use Prim.Native.Nat.{◌≤◌, ◌<◌, ◌-◌}
+use Prim.Native.Nat.{◌<◌}
 use mathlib.Core.Path.{◌≡◌, refl, ◌∙◌}
-use mathlib.Core.List.{◌++◌}
-use lib.ListN.{length, drop, replicate, length-set}
+use lib.ListN.{length, length-set}
 use borrow.Author.Fill.{fill_more}
 use borrow.Author.Rules.{rules}
 use native.Mathlib.Omega.{arith}
@@ -15,7 +14,7 @@ pub loop-i-smaller : goal.loop-i-smaller
 loop-i-smaller c = omega arith
 
 pub loop-i-preserved : goal.loop-i-preserved
-loop-i-preserved c =     let inv = c.loop-i.invariant in
+loop-i-preserved c = let inv = c.loop-i.invariant in
     let lt : c.loop-i.i < length c.args.words.now = omega arith in (
       omega arith,
       simp length-set inv.1,
@@ -24,6 +23,6 @@ loop-i-preserved c =     let inv = c.loop-i.invariant in
 
 pub returns : goal.returns
 unfolding zeros_then
-returns c =     let inv = c.loop-i.invariant in
+returns c = let inv = c.loop-i.invariant in
     let e : c.loop-i.i ≡ c.args.n = omega arith in
     inv.2 ∙ rw e

@@ -1,6 +1,5 @@
 use mathlib.Core.Path.{refl}
 use Rattle.semantics.specs.Files.{has_bit, bit}
-use borrow.Author.Rules.{rules}
 use Rattle.words.proofs.has_bit.Goals as goal
 
 pub returns : goal.returns

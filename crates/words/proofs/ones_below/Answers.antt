@@ -1,6 +1,5 @@
 use lib.Pow.{pow_pos}
 use Rattle.words.proofs.Masks.{shifted, ones_of_rest}
-use borrow.Author.Rules.{rules}
 use Rattle.words.proofs.ones_below.Goals as goal
 
 pub nonzero_rem-result : goal.nonzero_rem-result

@@ -1,8 +1,5 @@
-use Prim.Native.Nat.{◌-◌}
 use native.Mathlib.Omega.{arith}
-use lib.ListN.{length}
-use borrow.Author.Rules.{rules}
-use Rattle.words.proofs.SameWords.{other_length, other_word, SameTo, same_none, same_more, same_all}
+use Rattle.words.proofs.SameWords.{other_length, other_word, same_none, same_more, same_all}
 use Rattle.words.proofs.same_words.Goals as goal
 
 pub returns-then-a-b : goal.returns-then-a-b

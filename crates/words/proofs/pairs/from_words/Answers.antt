@@ -1,6 +1,5 @@
 use native.Mathlib.Omega.{arith}
 use Rattle.words.specs.WordPairs.{two_words}
-use borrow.Author.Rules.{rules}
 use Rattle.words.proofs.pairs.from_words.Goals as goal
 
 pub returns : goal.returns
