@@ -1,7 +1,6 @@
 use Rattle.mending.proofs.Hangs.{planned_there, end-inside, assembled, hung-bytes}
 use lib.ListN.{length-set}
 use native.Mathlib.Omega.{arith}
-use borrow.Author.Rules.{rules}
 use Rattle.mending.proofs.hanging.hang.Goals as goal
 
 pub part_at-part-requires : goal.part_at-part-requires

@@ -31,7 +31,7 @@ first_lacking-right-requires t c =
 pub returns-then-both_hold : goal.returns-then-both_hold
 returns-then-both_hold t c = λ rows p e h.
     c.or_else.ensures ∙ lacks-inside _ _ rows _ c.in-255.is c.both_hold.result (c.both_hold.ensures rows) c.if-both_hold.true _ c.first_lacking-left.result c.first_lacking-right.result
-      (λ p e h. (c.requires.0 _ p e h).next) (c.first_lacking-left.ensures rows) (c.first_lacking-right.ensures rows) p e h
+    (λ p e h. (c.requires.0 _ p e h).next) (c.first_lacking-left.ensures rows) (c.first_lacking-right.ensures rows) p e h
 
 pub returns-else-both_hold : goal.returns-else-both_hold
 returns-else-both_hold t c = λ rows p e h. lacks_here _ _ rows _ c.in-255.is c.both_hold.result (c.both_hold.ensures rows) c.if-both_hold.false p e h

@@ -1,4 +1,4 @@
-use Rattle.std.proofs.Common.{◌≡◌, arith}
+use Rattle.std.proofs.Common.{arith}
 use Rattle.mending.proofs.Places.{starts, no_other, left, right, left-ends}
 use Rattle.mending.proofs.Sides.{one_table, two_plans}
 use Rattle.mending.proofs.parts.+part_at.Goals as goal

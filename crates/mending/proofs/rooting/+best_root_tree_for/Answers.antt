@@ -51,12 +51,12 @@ best_root-loop-n-preserved t c =
     let is = c.holds.ensures in
     let K = side_known c.side_of-side.ensures c.requires in
     elim c.if-holds.branch [
-      best_root-then-holds w ↦ rw (w.best-is, w.pick-is) (
+      | best_root-then-holds w ↦ rw (w.best-is, w.pick-is) (
         w.tree_for-cost.ensures.0,
         rw w.better-pick.ensures (search_taken K l.n l.pick w.tree_for-cost.result w.rows_added.result (sym is ∙ w.if-holds.true) c.loop-n-test.true w.tree_for-cost.ensures.1 w.rows_added.ensures l.invariant.1),
         omega arith,
       )
-    | best_root-else-holds w ↦ rw (w.best-is, w.pick-is) (l.invariant.0, search_passed K l.n l.pick (sym is ∙ w.if-holds.false) l.invariant.1, omega arith)
+      | best_root-else-holds w ↦ rw (w.best-is, w.pick-is) (l.invariant.0, search_passed K l.n l.pick (sym is ∙ w.if-holds.false) l.invariant.1, omega arith)
     ]
 
 pub best_root-pack-requires : goal.best_root-pack-requires
