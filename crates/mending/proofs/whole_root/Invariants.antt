@@ -1,11 +1,5 @@
-use mathlib.Core.Path.{sym, ◌∙◌}
-use mathlib.Core.Logic.{⊎_elim}
-use borrow.Author.Tests.{ltb-true, ltb-false}
-use Rattle.mending.proofs.WholePlans.{whole-begun, whole-mark, whole_taken, whole_done, whole_buildable}
 use Prim.Native.Nat.{◌-◌, ◌≤◌}
 use lib.ListN.{length}
-use borrow.Author.Rules.{rules}
-use native.Mathlib.Omega.{arith}
 use Rattle.mending.specs.Rooting.{RootsRemembered}
 use Rattle.mending.specs.Whole.{WholeSearched}
 use Rattle.mending.proofs.whole_root.Given as goal

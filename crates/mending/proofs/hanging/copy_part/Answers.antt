@@ -1,9 +1,6 @@
 use mathlib.Core.Path.{◌≡◌}
-use Prim.Native.Nat.{◌+◌, ◌-◌, ◌≤◌}
-use borrow.Author.Rules.{rules}
 use native.Mathlib.Omega.{arith}
-use lib.ListN.{length, take, drop, length-set}
-use mathlib.Core.List.{◌++◌}
+use lib.ListN.{take, length-set}
 use Rattle.mending.proofs.Hangs.{copy_more, copy_none}
 use Rattle.mending.proofs.hanging.copy_part.Goals as goal
 

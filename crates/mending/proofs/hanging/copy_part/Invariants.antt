@@ -1,10 +1,7 @@
 use mathlib.Core.Path.{◌≡◌}
 use Prim.Native.Nat.{◌+◌, ◌-◌, ◌≤◌}
-use borrow.Author.Rules.{rules}
-use native.Mathlib.Omega.{arith}
-use lib.ListN.{length, take, drop, length-set}
+use lib.ListN.{length, take, drop}
 use mathlib.Core.List.{◌++◌}
-use Rattle.mending.proofs.Hangs.{copy_more, copy_none}
 use Rattle.mending.proofs.hanging.copy_part.Given as goal
 
 abbrev pub invariant-loop-k : goal.invariant-loop-k

@@ -1,10 +1,6 @@
 use Prim.Native.Nat.{ℕ, ◌-◌, ◌≤◌, ◌<◌}
 use lib.ListN.{length}
-use borrow.Author.Rules.{rules}
-use native.Mathlib.Omega.{arith}
 use Rattle.mending.specs.Hanging.{HolderAt}
-use Rattle.mending.proofs.Holders.{is-holder, not-holder}
-use Rattle.mending.proofs.Hangs.{none_more}
 use Rattle.mending.proofs.hanging.first_holder.Given as goal
 
 abbrev pub invariant-loop-j : goal.invariant-loop-j

@@ -1,7 +1,6 @@
 use Rattle.mending.proofs.Hangs.{planned_there, end-inside, assembled, hung-bytes}
 use lib.ListN.{length-set}
 use native.Mathlib.Omega.{arith}
-use borrow.Author.Rules.{rules}
 use Rattle.mending.proofs.hanging.hang.Goals as goal
 
 pub part_at-part-requires : goal.part_at-part-requires
@@ -35,5 +34,5 @@ pub returns : goal.returns
 returns c = let b = end-inside _ _ _ _ _ _ c.requires.1.spells c.first_holder-j.ensures c.run_start-i.ensures c.part_at-part.result.next (λ q f h. (c.part_at-part.ensures q f h).next) in (
   c.copy_part-4.ensures.0,
   λ p d sp h. hung-bytes _ _ _ _ _ p sp c.first_holder-j.ensures c.run_start-i.ensures d c.part_at-part.result.next _ _ (λ q f g. (c.part_at-part.ensures q f g).next) h
-      (assembled c.args.own.now c.args.hung.now c.args.out.now c.copy_part.new.1.1.1.0 c.copy_part-2.new.1.1.1.0 c.copy_part-3.new.1.1.1.0 c.copy_part-4.new.1.1.1.0 c.run_start-i.result c.part_at-part.result.next b.0 b.1 c.requires.2 c.copy_part.ensures.0 c.copy_part.ensures.1 c.copy_part-2.ensures.1 c.copy_part-3.ensures.1 c.copy_part-4.ensures.1),
+      (assembled c.args.own.now c.args.hung.now c.args.out.now c.copy_part.new.out c.copy_part-2.new.out c.copy_part-3.new.out c.copy_part-4.new.out c.run_start-i.result c.part_at-part.result.next b.0 b.1 c.requires.2 c.copy_part.ensures.0 c.copy_part.ensures.1 c.copy_part-2.ensures.1 c.copy_part-3.ensures.1 c.copy_part-4.ensures.1),
 )

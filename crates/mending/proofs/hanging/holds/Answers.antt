@@ -2,7 +2,6 @@ use native.Mathlib.Omega.{arith}
 use mathlib.Core.Path.{sym, ◌∙◌}
 use borrow.Author.Tests.{ltb-true, ltb-false}
 use Rattle.mending.proofs.Holders.{held-mark, tested}
-use borrow.Author.Rules.{rules}
 use Rattle.mending.proofs.hanging.holds.Goals as goal
 
 pub bounds-masks-t : goal.bounds-masks-t

@@ -1,9 +1,6 @@
 use mathlib.Core.Path.{◌≡◌}
 use Prim.Native.Nat.{ℕ, ◌≤◌, ◌<◌}
-use borrow.Author.Rules.{rules}
-use native.Mathlib.Omega.{arith}
 use lib.ListN.{get_or}
-use Rattle.mending.proofs.Hangs.{run_more}
 use Rattle.mending.proofs.hanging.run_start.Given as goal
 
 abbrev pub invariant-loop-i : goal.invariant-loop-i

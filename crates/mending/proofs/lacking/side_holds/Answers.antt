@@ -1,5 +1,4 @@
 use Rattle.mending.proofs.Lacks.{holds_first}
-use borrow.Author.Rules.{rules}
 use Rattle.mending.proofs.lacking.side_holds.Goals as goal
 
 pub returns : goal.returns

@@ -1,5 +1,4 @@
 use Rattle.mending.proofs.Sides.{sided_right, sided_left}
-use borrow.Author.Rules.{rules}
 use Rattle.mending.proofs.parts.side_of.Goals as goal
 
 pub returns-then-right : goal.returns-then-right

@@ -1,5 +1,4 @@
 use Rattle.mending.proofs.Sides.{split_left, split_right}
-use borrow.Author.Rules.{rules}
 use Rattle.mending.proofs.parts.split_for.Goals as goal
 
 pub returns-then-place-middle : goal.returns-then-place-middle

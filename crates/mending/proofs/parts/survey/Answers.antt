@@ -1,9 +1,6 @@
-use Prim.Native.Nat.{◌-◌, ◌≤◌}
-use lib.ListN.{length}
-use borrow.Author.Rules.{rules}
 use native.Mathlib.Omega.{arith}
 use Rattle.mending.proofs.Bytes.{spanned_planned}
-use Rattle.mending.proofs.Sides.{SurveyedTo, survey-begun, survey_more, survey_done}
+use Rattle.mending.proofs.Sides.{survey-begun, survey_more, survey_done}
 use Rattle.mending.proofs.parts.survey.Goals as goal
 
 pub loop-i-init : goal.loop-i-init

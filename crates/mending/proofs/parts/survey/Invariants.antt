@@ -1,9 +1,6 @@
 use Prim.Native.Nat.{◌-◌, ◌≤◌}
 use lib.ListN.{length}
-use borrow.Author.Rules.{rules}
-use native.Mathlib.Omega.{arith}
-use Rattle.mending.proofs.Bytes.{spanned_planned}
-use Rattle.mending.proofs.Sides.{SurveyedTo, survey-begun, survey_more, survey_done}
+use Rattle.mending.proofs.Sides.{SurveyedTo}
 use Rattle.mending.proofs.parts.survey.Given as goal
 
 abbrev pub invariant-loop-i : goal.invariant-loop-i

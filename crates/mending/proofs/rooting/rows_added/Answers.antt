@@ -1,6 +1,5 @@
 use mathlib.Core.Path.{ap}
 use lib.ListN.{get_or}
-use borrow.Author.Rules.{rules}
 use Rattle.mending.proofs.rooting.rows_added.Goals as goal
 
 pub returns-else-right : goal.returns-else-right
