@@ -1,6 +1,6 @@
 -- One step of the plan reader, case by case.
 use Prim.Native.Nat.{ℕ, suc, ◌+◌, ◌<◌, ◌≤◌}
-use mathlib.Core.Path.{◌≡◌, ap, ◌∙◌}
+use mathlib.Core.Path.{◌≡◌, sym, ap, ◌∙◌}
 use mathlib.Core.List.{List}
 use mathlib.Core.Option.{none, some}
 use native.Mathlib.Omega.{arith}
@@ -27,7 +27,7 @@ read_past s at h = stops s at at (λ owed. rw (drop_of_length-le s {i = at} h))
 module _ (s : List ℕ) (at : ℕ) (h : at < length s) where
   pub read_table : get_or s at 0 < 16 → PlanRead s at (end.End (at + 1))
   read_table t = record {
-    spells = λ owed. rw (drop-cons s at 0 h, ne_eqb (get_or s at 0) 255 (λ e. omega arith), lt-ltb (get_or s at 0) 16 t, misplaced, add-one at);
+    spells = λ owed. rw (drop-cons s at 0 h, ne_eqb (get_or s at 0) 255 (λ e. omega arith), lt-ltb (get_or s at 0) 16 t, misplaced) (ap (λ k. misplaced owed k (drop k s)) (sym (add-one at)));
     later = λ i q. let e : at + 1 ≡ i = cc in omega arith;
     inside = λ i q. let e : at + 1 ≡ i = cc in omega arith;
   }

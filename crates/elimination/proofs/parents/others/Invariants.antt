@@ -1,9 +1,5 @@
 use Prim.Native.Nat.{◌-◌}
-use mathlib.Core.Logic.{⊎_elim}
-use borrow.Author.Rules.{rules}
-use Rattle.theory.proofs.Cases.{true-false}
 use Rattle.elimination.specs.Parents.{Gathered}
-use Rattle.elimination.proofs.Covering.{gathered-begun, gathered_gone, gathered_more, gathered_all}
 use Rattle.elimination.proofs.parents.others.Given as goal
 
 abbrev pub invariant-loop-u : goal.invariant-loop-u

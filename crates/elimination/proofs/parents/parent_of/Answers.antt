@@ -1,5 +1,4 @@
 use mathlib.Core.Path.{◌∙◌}
-use borrow.Author.Rules.{rules}
 use Rattle.elimination.proofs.Covering.{parent_test}
 use Rattle.elimination.proofs.parents.parent_of.Goals as goal
 

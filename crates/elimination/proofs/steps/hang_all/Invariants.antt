@@ -1,8 +1,4 @@
-use mathlib.Core.Path.{refl}
-use native.Mathlib.Omega.{arith}
-use borrow.Author.Rules.{rules}
 use Rattle.elimination.specs.Steps.{HungSoFar}
-use Rattle.elimination.proofs.Hanging.{so_far-begun, child_below, so_far_more, so_far-stuck, so_far-rooted}
 use Rattle.elimination.proofs.steps.hang_all.Given as goal
 
 abbrev pub invariant-loop-left : goal.invariant-loop-left

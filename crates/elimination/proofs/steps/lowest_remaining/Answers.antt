@@ -1,7 +1,4 @@
-use Prim.Native.Nat.{◌-◌}
 use mathlib.Core.Path.{sym}
-use borrow.Author.Rules.{rules}
-use Rattle.elimination.specs.Steps.{Gone}
 use Rattle.elimination.proofs.Hanging.{gone-begun, gone_more, gone_here, gone_all}
 use Rattle.elimination.proofs.steps.lowest_remaining.Goals as goal
 

@@ -1,9 +1,5 @@
 use Prim.Native.Nat.{◌-◌}
-use mathlib.Core.Path.{sym}
-use mathlib.Core.Logic.{⊎_elim}
-use borrow.Author.Rules.{rules}
 use Rattle.elimination.specs.Steps.{Unhung}
-use Rattle.elimination.proofs.Covering.{unhung-begun, unhung_all, unhung_gone, unhung_more, hung_here}
 use Rattle.elimination.proofs.steps.next_hanging.Given as goal
 
 abbrev pub invariant-loop-t : goal.invariant-loop-t

@@ -1,9 +1,5 @@
 use Prim.Native.Nat.{◌-◌}
-use mathlib.Core.Logic.{⊎_elim}
-use native.Mathlib.Omega.{arith}
-use borrow.Author.Rules.{rules}
 use Rattle.elimination.specs.Writing.{Joining}
-use Rattle.elimination.proofs.Written.{joining-begun, joining-skip, joining-room, joining_more, joining_all}
 use Rattle.elimination.proofs.writing.write_joins.Given as goal
 
 abbrev pub invariant-loop-c : goal.invariant-loop-c

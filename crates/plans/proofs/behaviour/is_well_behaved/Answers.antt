@@ -1,4 +1,3 @@
-use borrow.Author.Rules.{rules}
 use Rattle.plans.proofs.behaviour.is_well_behaved.Goals as goal
 
 pub returns : goal.returns

@@ -6,7 +6,7 @@ pub find_plan-search-requires : goal.find_plan-search-requires
 find_plan-search-requires c = let q = c.requires in let (a, b, d) = searchable _ q.0 in (a, b, d, q.1)
 
 pub returns-in-Stuck : goal.returns-in-Stuck
-returns-in-Stuck c = λ ts h l. found-refused _ ts h l _ _ _ c.find_plan-search.ensures _ c.search-1.given.1
+returns-in-Stuck c = λ ts h l. found-refused _ ts h l _ _ _ c.find_plan-search.ensures _ c.in-Stuck.is
 
 pub returns-in-Plan : goal.returns-in-Plan
-returns-in-Plan c = λ ts h l. found_formed _ ts h l _ _ _ c.find_plan-search.ensures _ c.search-in-Plan-1.given.1
+returns-in-Plan c = λ ts h l. found_formed _ ts h l _ _ _ c.find_plan-search.ensures _ c.in-Plan.is

@@ -7,7 +7,7 @@ pub mend-lacking-requires : goal.mend-lacking-requires
 mend-lacking-requires c = let q = c.requires in (sent_of _ _ q.0, q.1)
 
 pub returns-in-At : goal.returns-in-At
-returns-in-At c = λ ts h n. mended-refused _ ts h _ n _ _ _ (c.mend-lacking.ensures _ (spelled-stands _ n.spelled)) _ c.lacking-1.given.1
+returns-in-At c = λ ts h n. mended-refused _ ts h _ n _ _ _ (c.mend-lacking.ensures _ (spelled-stands _ n.spelled)) _ c.in-At.is
 
 pub returns-in-Nothing : goal.returns-in-Nothing
-returns-in-Nothing c = λ ts h n. mended_formed _ ts h _ n _ _ _ (c.mend-lacking.ensures _ (spelled-stands _ n.spelled)) c.enum_told-1.given.1
+returns-in-Nothing c = λ ts h n. mended_formed _ ts h _ n _ _ _ (c.mend-lacking.ensures _ (spelled-stands _ n.spelled)) c.in-Nothing.is
