@@ -1,5 +1,5 @@
-"""Tests why must-fail edits were refused, by what rt must-fail or rt ci printed of them. The gate itself only sees that they were.
-Prints where each was refused first, and of what. EDITS names the file that holds what was printed:
+"""Tests why must-fail edits were refused, by what rt must-fail or rt ci printed of them. The gate itself only sees
+that they were. Prints where each was refused first, and of what. EDITS names the file that holds what was printed:
 
     rt must-fail | tee target/must-fail.log
     EDITS=target/must-fail.log python3 tests/run.py test_edits      (without EDITS: target/must-fail.log)
@@ -13,7 +13,9 @@ from support import path
 
 TOLD = re.compile(r"^rt: must-fail (?P<crate>\w+)/(?P<edit>[\w.-]+)\.edit: (?P<said>.*)$", re.M)
 REFUSED = re.compile(r"refused, as it must be(?: \((?P<only>[^)]*)\))?(?:: (?P<first>.*))?$")
-LINE = re.compile(r"(?:note: )?(?:\./)?(?P<place>\S+:\d+:\d+): (?:error(?:\[[\w-]+\])?: |(?=it is not proved))(?P<why>.*)$")
+LINE = re.compile(
+    r"(?:note: )?(?:\./)?(?P<place>\S+:\d+:\d+): (?:error(?:\[[\w-]+\])?: |(?=it is not proved))(?P<why>.*)$"
+)
 
 
 def told():
@@ -32,7 +34,7 @@ class Edits(unittest.TestCase):
     def setUp(self):
         self.told = told()
         if self.told is None:
-            self.skipTest("EDITS names no file with what rt must-fail or rt ci printed, and target/must-fail.log is not there")
+            self.skipTest("EDITS names no file with what rt must-fail printed, and target/must-fail.log is not there")
 
     def test_refused_for_what_they_say(self):
         self.assertTrue(self.told)

@@ -7,7 +7,8 @@ import unittest
 from support import path
 
 FUNCTION = re.compile(
-    r"^(?:#\[unsafe\(no_mangle\)\] )?(?:pub(?:\(crate\))? )?(?:extern \"C\" )?fn (\w+)(?:<[^(]*>)?\((.*?)\)", re.M | re.S
+    r"^(?:#\[unsafe\(no_mangle\)\] )?(?:pub(?:\(crate\))? )?(?:extern \"C\" )?fn (\w+)(?:<[^(]*>)?\((.*?)\)",
+    re.M | re.S,
 )
 IMPORT = re.compile(r"^\s*(?:ghost )?use ([^;{\n]*?)(?:(?:\.|::)\{(.*)\})?(?: as ([^\s;{]+))?;?$", re.M)
 WORD = re.compile(r"[^\s(){}.;,@\"«»]+")
@@ -21,7 +22,8 @@ def files(*patterns):
 
 
 def used(name, body):
-    """Whether the body has the name. Of an operator each part is a word of its own, as + of ◌+◌, or it stands there as it is."""
+    """Whether the body has the name. Of an operator each part is a word of its own, as + of ◌+◌, or it stands there as
+    it is."""
     if not re.fullmatch(r"[\w·'-]+", name):
         words = set(WORD.findall(body))
         return name in words or set(name.split("◌")) - {""} <= words
@@ -43,8 +45,8 @@ class Sources(unittest.TestCase):
                     self.assertLess(body[: body.index("\n}")].count("\n") + 1, 40)
 
     def test_edits(self):
-        """Each old text of a must-fail edit stands just once in its file, as the pairs before it left that, and a new text
-        behind it says something else."""
+        """Each old text of a must-fail edit stands just once in its file, as the pairs before it left that, and a new
+        text behind it says something else."""
         for file, text in files("must-fail/*.edit"):
             sources, edited, old = {}, None, None
             for kind, given in re.findall("^(file|old|new): ?(.*)$", text, re.M):
