@@ -14,6 +14,7 @@ pub enum PlanEnd {
 }
 
 // The plan that begins at an index: a table number, or FF, a left plan and a right plan.
+#[tactic(auto, using(crate::proofs::Reading::read_table))]
 fn read_plan(code: &[u8], at: usize) -> PlanEnd
     ensures { PlanRead code.now at result }
 {

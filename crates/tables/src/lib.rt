@@ -76,6 +76,12 @@ fn plan_record(file: &[u8], at: usize) -> End
     End::Plan(at + 3)
 }
 
+// What no row has for its copies.
+const NO_COPY: u32 = 0;
+
+// The most copies that a row can have.
+const MOST_COPIES: u32 = 65535;
+
 // Every row of a column of copies has 1 to 65,535 of them.
 fn copies_fit(column: &[u8], rows: usize) -> bool
     requires { (rows ≤ 4096) × (4 * rows ≤ length column.now) }
@@ -84,7 +90,7 @@ fn copies_fit(column: &[u8], rows: usize) -> bool
     let mut row = 0;
     while row < rows {
         let copies = words::word(column, 4 * row);
-        if copies == 0 || 65535 < copies {
+        if copies == NO_COPY || MOST_COPIES < copies {
             return false;
         }
         row += 1;
@@ -152,12 +158,15 @@ fn table_record(file: &[u8], at: usize, counted: bool) -> Record
     }
 }
 
+// The most tables that a file can have.
+const MOST_TABLES: usize = 16;
+
 // The table record whose mark stands at an offset, after that many tables: 17th (5), then the record's own rules.
 fn limited_table(file: &[u8], at: usize, count: usize, counted: bool) -> Record
     requires { at + 2 ≤ length file.now }
     ensures { result ≡ limited_table count counted at (drop at file.now) }
 {
-    if 16 <= count {
+    if MOST_TABLES <= count {
         return Record::Last(End::Fault(5, at));
     }
     table_record(file, at, counted)

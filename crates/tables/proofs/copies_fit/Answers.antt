@@ -13,10 +13,10 @@ overflow_mul-row c = omega arith
 pub word-copies-requires : goal.word-copies-requires
 word-copies-requires c = omega arith
 
-pub returns-then-copies-eq0 : goal.returns-then-copies-eq0
-returns-then-copies-eq0 c =
+pub returns-then-copies-eq-NO_COPY : goal.returns-then-copies-eq-NO_COPY
+returns-then-copies-eq-NO_COPY c =
     ⊎_elim (λ w. out_none _ _ _ c.loop-row-test.true _ c.word-copies.ensures w c.loop-row.invariant.1)
-    (λ w. out_many _ _ _ c.loop-row-test.true _ c.word-copies.ensures (lt-ltb _ _ w.1) c.loop-row.invariant.1) c.then-copies-eq0.either
+    (λ w. out_many _ _ _ c.loop-row-test.true _ c.word-copies.ensures (lt-ltb _ _ w.1) c.loop-row.invariant.1) c.then-copies-eq-NO_COPY.either
 
 pub overflow_add-row : goal.overflow_add-row
 overflow_add-row c = omega arith
@@ -27,7 +27,7 @@ loop-row-smaller c = omega arith
 pub loop-row-preserved : goal.loop-row-preserved
 loop-row-preserved c = (
   omega arith,
-  out_next _ _ _ c.loop-row-test.true _ c.word-copies.ensures c.if-copies-eq0.false (le-ltb _ _ c.if-copies-gt65535.false) c.loop-row.invariant.1,
+  out_next _ _ _ c.loop-row-test.true _ c.word-copies.ensures c.if-copies-eq-NO_COPY.false (le-ltb _ _ c.if-copies-gt-MOST_COPIES.false) c.loop-row.invariant.1,
 )
 
 pub returns : goal.returns

@@ -15,8 +15,5 @@ returns-in-End t c =
 pub returns-in-Bad : goal.returns-in-Bad
 returns-in-Bad t c = read-join_bad _ _ c.if-code-at.false c.in-255.is _ c.read_plan-left.ensures _ c.in-Bad.is
 
-pub returns-in-0-to-15 : goal.returns-in-0-to-15
-returns-in-0-to-15 t c = read_table _ _ c.if-code-at.false (omega arith)
-
 pub returns-in_default : goal.returns-in_default
 returns-in_default t c = read_other _ _ c.if-code-at.false (omega arith) (λ q. omega arith)
