@@ -5,7 +5,7 @@ use borrow.Author.Rules.{rules}
 use Rattle.capi.proofs.pigrozd_join.Goals as goal
 
 pub returns-in-Joined : goal.returns-in-Joined
-returns-in-Joined c = carried c.join-answer.result _ (ap answer_of (sym c.answer-1.given.1)) c.join-answer.ensures
+returns-in-Joined c = carried c.join-answer.result _ (ap answer_of (sym c.in-Joined.is)) c.join-answer.ensures
 
 pub returns-in-Refused : goal.returns-in-Refused
-returns-in-Refused c = carried c.join-answer.result _ (ap answer_of (sym c.answer-in-Refused-1.given.1)) c.join-answer.ensures
+returns-in-Refused c = carried c.join-answer.result _ (ap answer_of (sym c.in-Refused.is)) c.join-answer.ensures

@@ -1,4 +1,3 @@
-use borrow.Author.Rules.{rules}
 use Rattle.plans.proofs.admission.admit.Goals as goal
 
 pub returns : goal.returns

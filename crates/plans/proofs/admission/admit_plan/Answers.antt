@@ -1,6 +1,5 @@
 use Rattle.scheduling.proofs.Whole.{nothing_is}
 use Rattle.plans.proofs.Scratch.{follows, accepted, as-sent, formable, formable_for, plan-refused}
-use borrow.Author.Rules.{rules}
 use Rattle.plans.proofs.admission.admit_plan.Goals as goal
 
 pub with_scratch-requires : goal.with_scratch-requires

@@ -1,5 +1,4 @@
 use Rattle.plans.proofs.Admitting.{is-asked, is-sent, count_few, answer_7, spelled-plan, answer_8, is-behaved, is_not-behaved}
-use borrow.Author.Rules.{rules}
 use Rattle.plans.proofs.admission.check_plan.Goals as goal
 
 pub returns-then-asks_for_plan : goal.returns-then-asks_for_plan

@@ -3,7 +3,6 @@ use Rattle.theory.proofs.Reading.{bytes_of}
 use Rattle.words.proofs.Parts.{rest}
 use Rattle.scheduling.proofs.Whole.{nothing_is}
 use Rattle.plans.proofs.Verdicts.{catalogued, file-refused, plan-inside, file_planned}
-use borrow.Author.Rules.{rules}
 use Rattle.plans.proofs.admission.rule.Goals as goal
 
 pub slice_bounds-admit_plan-count : goal.slice_bounds-admit_plan-count

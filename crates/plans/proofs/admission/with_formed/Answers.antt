@@ -3,7 +3,6 @@ use lib.Seq.{length-take-le}
 use native.Mathlib.Omega.{arith}
 use Rattle.scheduling.proofs.Whole.{nothing_is}
 use Rattle.plans.proofs.Formed.{formed-refused, plan_in, formed-follows, formed_admission}
-use borrow.Author.Rules.{rules}
 use Rattle.plans.proofs.admission.with_formed.Goals as goal
 
 pub slice_bounds-bytes-end : goal.slice_bounds-bytes-end

@@ -2,7 +2,6 @@ use mathlib.Core.Path.{refl}
 use native.Mathlib.Omega.{arith}
 use Rattle.scheduling.proofs.Whole.{nothing_is}
 use Rattle.plans.proofs.Scratch.{plannable, first-low, countable, scratch-short, scratch_enough}
-use borrow.Author.Rules.{rules}
 use Rattle.plans.proofs.admission.with_scratch.Goals as goal
 
 pub schedule_of-extent-requires : goal.schedule_of-extent-requires

@@ -1,5 +1,4 @@
 use Rattle.plans.proofs.Formed.{searchable, found-refused, found_formed}
-use borrow.Author.Rules.{rules}
 use Rattle.plans.proofs.forming.found_plan.Goals as goal
 
 pub find_plan-search-requires : goal.find_plan-search-requires

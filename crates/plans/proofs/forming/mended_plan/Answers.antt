@@ -1,6 +1,5 @@
 use Rattle.mending.proofs.Places.{spelled-stands}
 use Rattle.plans.proofs.Sending.{sent_of, mended-refused, mended_formed}
-use borrow.Author.Rules.{rules}
 use Rattle.plans.proofs.forming.mended_plan.Goals as goal
 
 pub mend-lacking-requires : goal.mend-lacking-requires
