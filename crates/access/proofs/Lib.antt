@@ -1,3 +1,4 @@
+pub mod LowCopies
 pub mod SpineTotals
 pub mod ListedRows
 pub mod ChosenRows

@@ -1,7 +1,6 @@
 use mathlib.Core.Path.{ap, sym}
 use Rattle.join.specs.Answers.{answer_of}
 use Rattle.capi.proofs.Numbers.{carried}
-use borrow.Author.Rules.{rules}
 use Rattle.capi.proofs.pigrozd_join.Goals as goal
 
 pub returns-in-Joined : goal.returns-in-Joined

@@ -1,5 +1,4 @@
 use Rattle.accept.proofs.Comparisons.{compared}
-use borrow.Author.Rules.{rules}
 use Rattle.accept.proofs.comparing.compare.Goals as goal
 
 pub returns : goal.returns

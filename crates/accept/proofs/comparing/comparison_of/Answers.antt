@@ -1,5 +1,7 @@
+use mathlib.Core.Path.{ap}
+use mathlib.Core.Bool.{not}
+use native.Mathlib.Omega.{arith}
 use Rattle.accept.proofs.Comparisons.{join_says_10, slow_says_15, numbers_differ, words_same, words_differ}
-use borrow.Author.Rules.{rules}
 use Rattle.accept.proofs.comparing.comparison_of.Goals as goal
 
 pub returns-in-10 : goal.returns-in-10
