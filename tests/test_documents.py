@@ -49,7 +49,7 @@ class Trust(unittest.TestCase):
     wrong definitions there are, in docs/DECISIONS.md."""
 
     def test_counts(self):
-        crates = len(re.findall(r"^\w+:", text("crates.txt"), re.M))
+        crates = len(re.findall(r"^\w+(?: [\w=+]+)*:", text("crates.txt"), re.M))
         edits = len(glob.glob(path("crates", "*", "must-fail", "*.edit")))
         trust = text("docs", "TRUST.md")
         self.assertIn("`crates/*/must-fail`; %d of them" % edits, trust)
@@ -127,7 +127,7 @@ class Retired(unittest.TestCase):
         told = self.lines("crates", "semantics", "specs", "Outcome.antt")
         self.assertEqual(len(told), 2)
         self.assertIn('request U8: "12 is retired and not used again"', told[0])
-        self.assertEqual(told[1], "retiredNumber = 12")
+        self.assertEqual(told[1], "retired_number = 12")
 
     def test_code(self):
         sources = glob.glob(path("crates", "*", "src", "**", "*.rt"), recursive=True)
@@ -155,7 +155,7 @@ class Retired(unittest.TestCase):
             with open(page, encoding="utf-8") as file:
                 self.assertNotRegex(file.read(), r"(?<!\d)12\.md", page)
         paragraph = re.search(r"\*\*9\.8\*\*.*?\n\n", text("docs", "SPECIFICATION.md"), re.S)[0]
-        for theorem in ("total-counts-choices", "only-three", "join-never-retired"):
+        for theorem in ("total-counts-choices", "only_three", "join-never_retired"):
             self.assertIn("`%s`" % theorem, paragraph)
 
 

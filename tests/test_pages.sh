@@ -64,12 +64,14 @@ done
 
 # the theorems that the pages of answers name
 for page in docs/answers/*.md; do
-    tr '\n' ' ' <"$page" | grep -o '`[a-z0-9-]*` in `crates/[^`]*`' | tr -d '`' | while read -r name in file; do
-        grep -q "^ *pub $name :" "$file" || echo "test_pages: $page names $name, which is not $in $file"
-    done
-done >"$room/theorems"
+    tr '\n' ' ' <"$page" | grep -o '`[a-z0-9_-]*` in `crates/[^`]*`' | tr -d '`' | sed "s|^|$page |"
+done >"$room/named"
+while read -r page name in file; do
+    grep -q "^ *pub $name :" "$file" || echo "test_pages: $page names $name, which is not $in $file"
+done <"$room/named" >"$room/theorems"
 cat "$room/theorems"
 [ -s "$room/theorems" ] && failures=$((failures + 1))
+[ "$(wc -l <"$room/named")" -ge 5 ] || { echo 'test_pages: no theorems are named'; failures=$((failures + 1)); }
 
 # the version; a page that leads to another one has none, and is named there
 version=$(sed -n 's/^#define PIGROZD_VERSION "\(.*\)"$/\1/p' include/pigrozd.h)

@@ -1,12 +1,17 @@
 """Tests the layout of the crates that CONTRIBUTING.md asks for: lines, functions, edits, imports."""
 import glob
+import os
 import re
 import unittest
 
 from support import path
 
-FUNCTION = re.compile(r"^(?:pub(?:\(crate\))? )?(?:extern \"C\" )?fn (\w+)\((.*?)\)", re.M | re.S)
-IMPORT = re.compile(r"^\s*(?:ghost )?use ([^;{\n]*?)(?:\.\{(.*)\})?(?: as ([\w-]+))?;?$", re.M)
+FUNCTION = re.compile(
+    r"^(?:#\[unsafe\(no_mangle\)\] )?(?:pub(?:\(crate\))? )?(?:extern \"C\" )?fn (\w+)(?:<[^(]*>)?\((.*?)\)",
+    re.M | re.S,
+)
+IMPORT = re.compile(r"^\s*(?:ghost )?use ([^;{\n]*?)(?:(?:\.|::)\{(.*)\})?(?: as ([^\s;{]+))?;?$", re.M)
+WORD = re.compile(r"[^\s(){}.;,@\"«»]+")
 
 
 def files(*patterns):
@@ -17,10 +22,12 @@ def files(*patterns):
 
 
 def used(name, body):
-    """Whether the body has the name, or each part of an operator."""
-    if "_" in name and not name[0].isalpha():
-        return all(part in body for part in name.split("_") if part)
-    return re.search(r"(?<![\w·′″-])" + re.escape(name) + r"(?![\w·′″-])", body) is not None
+    """Whether the body has the name. Of an operator each part is a word of its own, as + of ◌+◌, or it stands there as
+    it is."""
+    if not re.fullmatch(r"[\w·'-]+", name):
+        words = set(WORD.findall(body))
+        return name in words or set(name.split("◌")) - {""} <= words
+    return re.search(r"(?<![\w·'-])" + re.escape(name) + r"(?![\w·'-])", body) is not None
 
 
 class Sources(unittest.TestCase):
@@ -38,15 +45,27 @@ class Sources(unittest.TestCase):
                     self.assertLess(body[: body.index("\n}")].count("\n") + 1, 40)
 
     def test_edits(self):
-        """The old text of a must-fail edit stands in its file just once."""
+        """Each old text of a must-fail edit stands just once in its file, as the pairs before it left that, and a new
+        text behind it says something else."""
         for file, text in files("must-fail/*.edit"):
-            edited = re.search("^file: (.*)$", text, re.M)[1]
-            with open(path("crates", file.split("/must-fail/")[0], edited), encoding="utf-8") as f:
-                source = f.read()
-            for old in re.findall("^old: (.*)$", text, re.M):
-                self.assertEqual(source.count(old), 1, file)
+            sources, edited, old = {}, None, None
+            for kind, given in re.findall("^(file|old|new): ?(.*)$", text, re.M):
+                if kind == "file":
+                    edited = path("crates", file.split("/must-fail/")[0], given)
+                    if edited not in sources:
+                        with open(edited, encoding="utf-8") as f:
+                            sources[edited] = f.read()
+                elif kind == "old":
+                    self.assertIsNone(old, file)
+                    self.assertEqual(sources[edited].count(given), 1, file)
+                    old = given
+                else:
+                    self.assertNotIn(old, (None, given), file)
+                    sources[edited], old = sources[edited].replace(old, given), None
+            self.assertTrue(sources and old is None, file)
 
     def test_imports(self):
+        unused = []
         for file, text in files("src/**/*.rt", "specs/**/*.antt", "proofs/**/*.antt"):
             body = re.sub("(--|//).*", "", IMPORT.sub("", text))
             for module, names, alias in IMPORT.findall(text):
@@ -55,7 +74,9 @@ class Sources(unittest.TestCase):
                 else:
                     names = [module.split("::")[-1]] if file.endswith(".rt") else []
                 for name in names:
-                    self.assertTrue(used(name, body), "%s: %s" % (file, name))
+                    if not used(name, body):
+                        unused.append("%s: %s" % (os.path.relpath(file, path("crates")), name))
+        self.assertFalse(unused, "\n".join(unused))
 
 
 if __name__ == "__main__":
