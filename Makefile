@@ -94,11 +94,9 @@ check-python: lib
 check-commands: lib
 	$(PYTHON) tests/run.py test_commands test_join test_view test_damaged test_documents test_sources
 
-# What the prover says of the must-fail edits: each is to be refused for what it says. rt must-fail repeats what was said of an edit that
-# it or the gate has tried, and tries the others.
+# What the prover said of the must-fail edits, as rt must-fail printed it into target/must-fail.log, or rt ci into another file:
+# make check-edits EDITS=FILE. Each edit is to be refused for what it says.
 check-edits:
-	mkdir -p target
-	rt must-fail > target/must-fail.log || (cat target/must-fail.log; exit 1)
 	$(PYTHON) tests/run.py test_edits
 
 .PHONY: lib check-users check-c check-python check-commands check-edits
@@ -182,7 +180,7 @@ help:
 	    'make check-c           the header, the C examples, the programs and an installation; seconds after make lib and make run' \
 	    'make check-python      the Python package over the shared library; a minute after make lib' \
 	    'make check-commands    the commands of the Python package; 20 seconds after make lib' \
-	    'make check-edits       why each must-fail edit is refused; seconds after make test' \
+	    'make check-edits       why each must-fail edit was refused, by target/must-fail.log (rt must-fail > target/must-fail.log); a second' \
 	    'make bench             measures the join beside other joins, and results by number; 4 minutes' \
 	    'make check-bench       only whether these joins agree; 20 seconds after make lib' \
 	    'make clean             removes target/ and out/ of each crate, with all that is proved and built' \
