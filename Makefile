@@ -4,7 +4,7 @@
 FILE = crates/pigrozd/stdin
 
 run: say-first
-	rt check pigrozd
+	$(call program,pigrozd)
 	target/bin/pigrozd < $(FILE)
 
 test:
@@ -12,15 +12,23 @@ test:
 
 # What takes minutes says so before it begins.
 say-first:
-	@test -e target/stamp/join || echo 'make: everything is proved before it is built: 2 to 4 minutes on 2 cores, the first time' >&2
+	@test -e crates/join/out || echo 'make: everything is proved before it is built: minutes, the first time' >&2
 
 .PHONY: run test say-first
+
+# rt run proves a program, leaves it in its crate's out/ and runs it: here over an empty file, which the programs refuse with status 0.
+# It builds again only what has changed.
+define program
+	cd crates/$(1) && rt run < /dev/null > /dev/null
+	mkdir -p target/bin
+	cp crates/$(1)/out/$(1) target/bin/$(1)
+endef
 
 # make lib builds the library for C and what calls C: target/lib/libpigrozd.a and libpigrozd.so; include/pigrozd.h declares it.
 # make check-users tests what users call: a part of it for each kind of user.
 LIB = target/lib
 EXAMPLES = target/examples
-SOURCES = $(shell find crates -name '*.rt' -o -name '*.antt')
+SOURCES = $(shell find crates -name out -prune -o \( -name '*.rt' -o -name '*.antt' \) -print)
 WARNINGS = -pedantic -Wall -Wextra -Werror
 STRICT = -std=c99 $(WARNINGS)
 
@@ -31,17 +39,16 @@ SONAME := libpigrozd.so.$(firstword $(subst ., ,$(VERSION)))
 lib: say-first $(LIB)/libpigrozd.a $(LIB)/libpigrozd.so $(LIB)/$(SONAME)
 
 # The join, the slow engine, and the two functions for one result are an object each: a program that calls the join alone has nothing
-# of the others in it.
-OBJECTS = target/staticlib
+# of the others in it. rt lib proves such a crate, and leaves its object NAME.o in out/libNAME.a there.
+EXPORTS = capi_c capi_slow_c capi_access_c
+OBJECTS = target/objects
 
 $(LIB)/libpigrozd.a: crates.txt $(SOURCES)
-	rt staticlib capi
-	rt staticlib capi_slow
-	rt staticlib capi_access
-	mkdir -p $(LIB)
-	cd $(OBJECTS) && $(AR) x libcapi.a && $(AR) x libcapi_slow.a && $(AR) x libcapi_access.a
+	for crate in $(EXPORTS); do (cd crates/$$crate && rt lib) || exit 1; done
+	mkdir -p $(LIB) $(OBJECTS)
+	cd $(OBJECTS) && for crate in $(EXPORTS); do $(AR) x ../../crates/$$crate/out/lib$$crate.a || exit 1; done
 	rm -f $@
-	$(AR) rcs $@ $(OBJECTS)/capi.o $(OBJECTS)/capi_slow.o $(OBJECTS)/capi_access.o
+	$(AR) rcs $@ $(EXPORTS:%=$(OBJECTS)/%.o)
 
 $(LIB)/libpigrozd.so: $(LIB)/libpigrozd.a include/pigrozd.h
 	$(CC) -shared -Wl,-soname,$(SONAME) -Wl,-z,defs -o $@ -Wl,--whole-archive $< -Wl,--no-whole-archive
@@ -87,7 +94,8 @@ check-python: lib
 check-commands: lib
 	$(PYTHON) tests/run.py test_commands test_join test_view test_damaged test_documents test_sources
 
-# What the prover said of the must-fail edits in the last run of the gate: each is to be refused for what it says.
+# What the prover said of the must-fail edits, as rt must-fail printed it into target/must-fail.log, or rt ci into another file:
+# make check-edits EDITS=FILE. Each edit is to be refused for what it says.
 check-edits:
 	$(PYTHON) tests/run.py test_edits
 
@@ -130,12 +138,10 @@ below = $(patsubst $(PREFIX)/%,$${prefix}/%,$(1))
 
 # (behind the library, and one behind the other, so that rt runs once at a time under make -j)
 target/bin/pigrozd: crates.txt $(SOURCES) | $(LIB)/libpigrozd.a
-	rt check pigrozd
-	touch $@
+	$(call program,pigrozd)
 
 target/bin/accept: crates.txt $(SOURCES) | $(LIB)/libpigrozd.a target/bin/pigrozd
-	rt check accept
-	touch $@
+	$(call program,accept)
 
 install: lib target/bin/pigrozd target/bin/accept
 	$(INSTALL) -d $(sort $(addprefix $(DESTDIR),$(dir $(INSTALLED))))
@@ -157,16 +163,16 @@ uninstall:
 	rm -f $(addprefix $(DESTDIR),$(INSTALLED))
 
 clean:
-	rm -rf target
+	rm -rf target crates/*/out
 
 .PHONY: install uninstall clean
 
-# Times are of 2 cores.
+# rt keeps what it has proved: minutes are those of a first time.
 help:
 	@printf '%s\n' \
-	    'make run [FILE=path]   joins a file, or the sample; 2 to 4 minutes the first time, since all is proved first, then a second' \
-	    'make test              rt ci: proves everything from nothing and tries the must-fail edits; 15 to 20 minutes' \
-	    'make lib               target/lib/libpigrozd.a and libpigrozd.so; 2 to 4 minutes the first time, 20 seconds after make run' \
+	    'make run [FILE=path]   joins a file, or the sample; minutes the first time, since all is proved first, then a second' \
+	    'make test              rt ci: proves everything and tries the must-fail edits, but for what it passed here before; the longest' \
+	    'make lib               target/lib/libpigrozd.a and libpigrozd.so; minutes the first time, less after make run' \
 	    'make install [PREFIX=/usr/local] [DESTDIR=]' \
 	    '                       header, libraries, pkg-config file, programs and manual pages; seconds after make lib and make run' \
 	    'make uninstall         removes what make install put there; the same PREFIX and DESTDIR' \
@@ -174,10 +180,10 @@ help:
 	    'make check-c           the header, the C examples, the programs and an installation; seconds after make lib and make run' \
 	    'make check-python      the Python package over the shared library; a minute after make lib' \
 	    'make check-commands    the commands of the Python package; 20 seconds after make lib' \
-	    'make check-edits       why each must-fail edit was refused in the last rt ci; a second' \
+	    'make check-edits       why each must-fail edit was refused, by target/must-fail.log (rt must-fail > target/must-fail.log); a second' \
 	    'make bench             measures the join beside other joins, and results by number; 4 minutes' \
 	    'make check-bench       only whether these joins agree; 20 seconds after make lib' \
-	    'make clean             removes target/, with all that is proved and built' \
+	    'make clean             removes target/ and out/ of each crate, with all that is proved and built' \
 	    'make help              this list'
 
 .PHONY: help

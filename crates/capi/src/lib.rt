@@ -1,4 +1,4 @@
-// The join for callers in C and in other languages: include/pigrozd.h declares what is here.
+// The join with its answer in numbers, as include/pigrozd.h declares it. The crate capi_c exports it to C.
 #![tactic(auto)]
 
 ghost use Rattle.capi.specs.Calls.{Calls};
@@ -17,12 +17,7 @@ pub struct pigrozd_answer {
 }
 
 // Joins the tables of a file by its plan: join::join, its answer as numbers.
-#[unsafe(no_mangle)]
-pub extern "C" fn pigrozd_join(
-    file: &[u8],
-    scratch: &mut [u32],
-    output: &mut [u32],
-) -> pigrozd_answer
+pub fn pigrozd_join(file: &[u8], scratch: &mut [u32], output: &mut [u32]) -> pigrozd_answer
     ensures { Calls file.now scratch.old output.old scratch.new output.new result }
 {
     let answer = join::join(file, scratch, output);

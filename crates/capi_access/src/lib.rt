@@ -1,4 +1,4 @@
-// Results by number for callers in C and in other languages: include/pigrozd.h declares what is here.
+// Results by number with their answers in numbers, as include/pigrozd.h declares them. The crate capi_access_c exports them to C.
 #![tactic(auto)]
 
 ghost use Rattle.capi_access.specs.Calls.{ResultCalls, NumberCalls};
@@ -23,8 +23,7 @@ pub struct pigrozd_number_answer {
 }
 
 // Result number n of a file: access::result_at.
-#[unsafe(no_mangle)]
-pub extern "C" fn pigrozd_result_at(
+pub fn pigrozd_result_at(
     file: &[u8],
     scratch: &mut [u32],
     n: u64,
@@ -45,8 +44,7 @@ pub extern "C" fn pigrozd_result_at(
 }
 
 // The number of the result that has these row numbers and copies: access::number_of.
-#[unsafe(no_mangle)]
-pub extern "C" fn pigrozd_number_of(
+pub fn pigrozd_number_of(
     file: &[u8],
     scratch: &mut [u32],
     rows: &[u32],

@@ -1,4 +1,4 @@
-// The slow engine for callers in C and in other languages: include/pigrozd.h declares what is here.
+// The slow engine with its answer in numbers, as include/pigrozd.h declares it. The crate capi_slow_c exports it to C.
 #![tactic(auto)]
 
 ghost use Rattle.capi_slow.specs.Calls.{SlowCalls};
@@ -13,8 +13,7 @@ pub struct pigrozd_slow_answer {
 }
 
 // Joins the tables of a file by going through every choice: exhaustive::join_by_choices, its answer as numbers.
-#[unsafe(no_mangle)]
-pub extern "C" fn pigrozd_slow_join(file: &[u8], output: &mut [u32]) -> pigrozd_slow_answer
+pub fn pigrozd_slow_join(file: &[u8], output: &mut [u32]) -> pigrozd_slow_answer
     ensures { SlowCalls file.now output.old output.new result }
 {
     let answer = exhaustive::join_by_choices(file, output);

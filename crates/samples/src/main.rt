@@ -4,10 +4,16 @@
 // expected.
 #![tactic(auto)]
 
-ghost use Rattle.std.specs.Prelude.{◌≡◌, length};
+ghost use Rattle.std.specs.Prelude.{◌≡◌, ◌≤◌, length};
 
 use capi_access::pigrozd_result_answer;
-use libc::STDOUT_FILENO;
+use std::env;
+use std::fs::File;
+use std::io::Read;
+use std::rt::Files;
+
+// The descriptor of standard output.
+const STDOUT_FILENO: i32 = 1;
 
 // What every word of the buffers holds before a call. No sample has it as a value.
 const BEFORE: u32 = 2779096485;
@@ -231,34 +237,44 @@ fn join_sample(sample: &[u8], scratch: &mut [u32], joined: &mut [u32], slow: &mu
     );
 }
 
-fn join_descriptor(fd: i32) {
+// Reads until the buffer is full, the file ends or a read fails, and returns how many bytes stand at the front of the buffer then.
+fn read_full(file: &mut impl Read, buf: &mut [u8]) -> usize
+    ensures { result ≤ length buf.new }
+{
+    let mut done = 0;
+    while done < buf.len() {
+        match file.read(&mut buf[done..]) {
+            Ok(n) if n > 0 => done += n,
+            _ => break,
+        }
+    }
+    done
+}
+
+fn join_file(file: &mut impl Read) {
     let mut sample = [0u8; 65544];
     let mut scratch = [BEFORE; 65536];
     let mut joined = [BEFORE; 65536];
     let mut slow = [BEFORE; 65536];
-    let n = io::read_full(fd, &mut sample);
+    let n = read_full(file, &mut sample);
     join_sample(&sample[..n], &mut scratch, &mut joined, &mut slow);
 }
 
-fn join_argument(i: usize) {
-    let mut name = io::buffer();
-    let n = os::arg(i, &mut name);
-    io::write_all(STDOUT_FILENO, &name[..n]);
+// Prints the name of a sample, and joins it. A sample that cannot be opened is named on standard error, with the reason.
+fn join_argument(rt: &(impl Files + Eprint), name: &str) {
+    io::write_all(STDOUT_FILENO, name.as_bytes());
     io::write_all(STDOUT_FILENO, b"\n");
-    let fd = os::open_read(&name[..n]);
-    if fd < 0 {
-        os::fail(&name[..n]);
-        return;
+    match File::open(rt, name) {
+        Ok(mut file) => join_file(&mut file),
+        Err(error) => {
+            let _ = eprintln!(rt; "{name}: {error}");
+        }
     }
-    join_descriptor(fd);
-    libc::close(fd);
 }
 
-fn main() {
-    let count = os::arg_count();
-    let mut i = 1;
-    while i < count {
-        join_argument(i);
-        i += 1;
+fn main(rt: HostRuntime) -> std::io::Result<()> {
+    for name in env::args(&rt)?.skip(1) {
+        join_argument(&rt, name.as_str());
     }
+    Ok(())
 }
