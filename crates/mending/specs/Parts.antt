@@ -68,7 +68,8 @@ slot_of false at = 2 * at + 1
 -- the key is the mask of the join attributes of l and r
 pub record JoinKey (masks : List ℕ) (l r : Plan) (key : ℕ) : Type 0 where
   pub word : key < 2 ^ 32
-  pub bits : (a : ℕ) → has_bit key a ≡ (any (λ t. has_bit (get_or masks t 0) a) (tables l) && any (λ t. has_bit (get_or masks t 0) a) (tables r))
+  pub bits : (a : ℕ) → has_bit key a
+      ≡ (any (λ t. has_bit (get_or masks t 0) a) (tables l) && any (λ t. has_bit (get_or masks t 0) a) (tables r))
 
 -- the right side, or the left one, of the join of l and r at an index, which ends at e, r beginning at m
 pub record Sided (masks : List ℕ) (at : ℕ) (right : Bool) (l r : Plan) (m e : ℕ) (s : Side) : Type 0 where
@@ -94,7 +95,8 @@ pub record SplitAt (masks : List ℕ) (at place : ℕ) (l r : Plan) (m e : ℕ) 
 
 -- what taking a join apart asks: the right side begins behind the left one and ends behind its beginning
 abbrev pub Spaced : List ℕ → ℕ → Type 0
-Spaced ends at = (at + 1 ≤ get_or ends (at + 1) 0) × (get_or ends (at + 1) 0 < 31) × (get_or ends (at + 1) 0 ≤ get_or ends (get_or ends (at + 1) 0) 0)
+Spaced ends at =
+    (at + 1 ≤ get_or ends (at + 1) 0) × (get_or ends (at + 1) 0 < 31) × (get_or ends (at + 1) 0 ≤ get_or ends (get_or ends (at + 1) 0) 0)
 
 -- the split is that of the join at the index, in every plan whose bytes are surveyed
 abbrev pub SplitFor : List ℕ → List ℕ → ℕ → ℕ → Split → Type 0

@@ -1,6 +1,7 @@
 -- Document 01, "The file": the records of a file, read in order, and the answers 1 to 6. Document 02, request U9: tables whose rows have
 -- copies, and answer 19.
-use Rattle.std.specs.Prelude.{Bool, true, false, ◌&&◌, ◌||◌, not, List, [], ◌∷◌, ◌++◌, ℕ, zero, suc, ◌+◌, ◌-◌, ◌*◌, ◌/◌, ◌%◌, ◌^◌, min, length, drop, get_or, eqb, ltb}
+use Rattle.std.specs.Prelude.{Bool, true, false, ◌&&◌, ◌||◌, not, List, [], ◌∷◌, ◌++◌, length, drop, get_or}
+use Rattle.std.specs.Prelude.{ℕ, zero, suc, ◌+◌, ◌-◌, ◌*◌, ◌/◌, ◌%◌, ◌^◌, min, eqb, ltb}
 use Rattle.semantics.specs.Lists.{any, sum, up_to}
 
 -- the 4-byte number at an offset: little-endian

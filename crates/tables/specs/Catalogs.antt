@@ -1,7 +1,8 @@
 -- What the code gives for what `semantics` defines: the catalog of tables, the end of a reading, one record.
 use Rattle.std.specs.Prelude.{◌≡◌, Bool, true, false, List, map, ℕ, ◌-◌, length, get_or, take, leb}
 use Rattle.semantics.specs.Lists.{any}
-use Rattle.semantics.specs.Files.{Table, table_with, has_bit, cut_mark, table_mark, plan_mark, other_mark, next_mark, TableRecord, broken, whole}
+use Rattle.semantics.specs.Files.{Table, table_with, has_bit, cut_mark, table_mark, plan_mark, other_mark, next_mark}
+use Rattle.semantics.specs.Files.{TableRecord, broken, whole}
 use Rattle.semantics.specs.Files.{next_table, Ending, fault, plan_bytes, plan_record, read}
 use Rattle.semantics.specs.Shapes.{width}
 use Rattle.words.specs.Arrays.{padded}

@@ -1,7 +1,8 @@
 -- Words for the answers 7, 8, 9 and 14 and their details, without the recursions that decide them. That the two say the same is shown
 -- in `proofs/Misplaced.antt`, `proofs/Misnamed.antt`, `proofs/Lacking.antt`, `proofs/Eliminating.antt` and, for a whole file,
 -- `proofs/PlanAnswers.antt`. And what stands at the detail of 19 (`proofs/OutOfRange.antt`).
-use Rattle.std.specs.Prelude.{◌≡◌, Bool, true, false, ◌&&◌, ◌||◌, not, List, [], ◌∷◌, ◌++◌, ◌⊎◌, ℕ, zero, suc, ◌+◌, ◌*◌, ◌≤◌, ◌<◌, length, take, drop, get_or, eqb, ltb}
+use Rattle.std.specs.Prelude.{◌≡◌, Bool, true, false, ◌&&◌, ◌||◌, not, List, [], ◌∷◌, ◌++◌, ◌⊎◌, length, take, drop, get_or}
+use Rattle.std.specs.Prelude.{ℕ, zero, suc, ◌+◌, ◌*◌, ◌≤◌, ◌<◌, eqb, ltb}
 use Rattle.theory.specs.Elements.{Each, member}
 use Rattle.semantics.specs.Lists.{any, filter, up_to}
 use Rattle.semantics.specs.Files.{Table, word_at, copies_fit, record_bytes, table_mark, next_mark, whole, next_table, plan_bytes, read}

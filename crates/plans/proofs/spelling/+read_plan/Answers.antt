@@ -1,5 +1,5 @@
 use native.Mathlib.Omega.{arith}
-use Rattle.plans.proofs.Reading.{read_past, read_table, read_other, read_join, read-join_bad}
+use Rattle.plans.proofs.Reading.{read_past, read_other, read_join, read-join_bad}
 use Rattle.plans.proofs.spelling.+read_plan.Goals as goal
 
 pub returns-then-code-at : goal.returns-then-code-at
