@@ -16,7 +16,7 @@ word-copies-requires c = omega arith
 pub returns-then-copies-eq-NO_COPY : goal.returns-then-copies-eq-NO_COPY
 returns-then-copies-eq-NO_COPY c =
     ⊎_elim (λ w. out_none _ _ _ c.loop-row-test.true _ c.word-copies.ensures w c.loop-row.invariant.1)
-    (λ w. out_many _ _ _ c.loop-row-test.true _ c.word-copies.ensures (lt-ltb _ _ w.1) c.loop-row.invariant.1) c.then-copies-eq-NO_COPY.either
+    (λ w. out_many _ _ _ c.loop-row-test.true _ c.word-copies.ensures (lt-ltb 65535 c.word-copies.result (omega (arith, w.1))) c.loop-row.invariant.1) c.then-copies-eq-NO_COPY.either
 
 pub overflow_add-row : goal.overflow_add-row
 overflow_add-row c = omega arith

@@ -1,9 +1,10 @@
+use native.Mathlib.Omega.{arith}
 use mathlib.Core.Path.{sym, ◌∙◌}
 use Rattle.tables.proofs.Records.{limited_full, limited-rules}
 use Rattle.tables.proofs.limited_table.Goals as goal
 
 pub returns-then-count-ge-MOST_TABLES : goal.returns-then-count-ge-MOST_TABLES
-returns-then-count-ge-MOST_TABLES c = sym (limited_full _ _ _ _ c.if-count-ge-MOST_TABLES.true)
+returns-then-count-ge-MOST_TABLES c = sym (limited_full _ _ _ _ (omega arith))
 
 pub returns : goal.returns
 returns c = c.table_record.ensures ∙ sym (limited-rules _ _ _ _ c.if-count-ge-MOST_TABLES.false)
