@@ -53,8 +53,9 @@ $(LIB)/libpigrozd.a: crates.txt $(SOURCES)
 $(LIB)/libpigrozd.so: $(LIB)/libpigrozd.a include/pigrozd.h
 	$(CC) -shared -Wl,-soname,$(SONAME) -Wl,-z,defs -o $@ -Wl,--whole-archive $< -Wl,--no-whole-archive
 
+# (a copy, since rt ci refuses a link anywhere in the repository)
 $(LIB)/$(SONAME): $(LIB)/libpigrozd.so
-	ln -sf libpigrozd.so $@
+	cp -f $< $@
 
 check-users: check-c check-python check-commands
 
