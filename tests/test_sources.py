@@ -6,10 +6,13 @@ import unittest
 
 from support import path
 
-FUNCTION = re.compile(
-    r"^(?:#\[unsafe\(no_mangle\)\] )?(?:pub(?:\(crate\))? )?(?:extern \"C\" )?fn (\w+)(?:<[^(]*>)?\((.*?)\)",
+FUNCTION = re.compile(  # of a method too, which is indented
+    r"^(?P<indent> *)(?:#\[unsafe\(no_mangle\)\] )?(?:pub(?:\(crate\))? )?(?:extern \"C\" )?"
+    r"fn (?P<name>\w+)(?:<.*?>)?\((?P<parameters>.*?)\)",
     re.M | re.S,
 )
+# The result and the clauses; a function that a trait declares ends there.
+HEAD = re.compile(r".*?(?P<end>;|\{)\n", re.S)
 IMPORT = re.compile(r"^\s*(?:ghost )?use ([^;{\n]*?)(?:(?:\.|::)\{(.*)\})?(?: as ([^\s;{]+))?;?$", re.M)
 WORD = re.compile(r"[^\s(){}.;,@\"«»]+")
 
@@ -21,9 +24,20 @@ def files(*patterns):
                 yield name, f.read()
 
 
+def functions(text):
+    """The functions of a file: what FUNCTION found, the result with the clauses, and the body, None where a trait
+    declares the function."""
+    for found in FUNCTION.finditer(text):
+        head = HEAD.match(text, found.end())
+        body = None
+        if head["end"] == "{":
+            body = text[head.end() : text.index("\n%s}" % found["indent"], head.end())]
+        yield found, head[0], body
+
+
 def used(name, body):
-    """Whether the body has the name. Of an operator each part is a word of its own, as + of ◌+◌, or it stands there as
-    it is."""
+    """Whether the body has the name. Of an operator each part is a word of its own, as + of ◌+◌, or it stands there
+    as it is."""
     if not re.fullmatch(r"[\w·'-]+", name):
         words = set(WORD.findall(body))
         return name in words or set(name.split("◌")) - {""} <= words
@@ -38,11 +52,16 @@ class Sources(unittest.TestCase):
 
     def test_functions(self):
         for file, text in files("src/**/*.rt"):
-            for found in FUNCTION.finditer(text):
-                with self.subTest(file=file, function=found[1]):
-                    self.assertLessEqual(len(re.findall(r"\w+: ", found[2])), 9)
-                    body = re.split(r"\n\{\n|\{\n", text[found.end() :], maxsplit=1)[-1]
-                    self.assertLess(body[: body.index("\n}")].count("\n") + 1, 40)
+            for found, _, body in functions(text):
+                with self.subTest(file=file, function=found["name"]):
+                    self.assertLessEqual(len(re.findall(r"\w+: ", found["parameters"])), 9)
+                    self.assertLess((body or "").count("\n") + 1, 40)
+
+    def test_all_functions(self):
+        """No function is overlooked: as many are found as lines begin with the word, but for what stands before it."""
+        for file, text in files("src/**/*.rt"):
+            lines = re.findall(r"^(?!\s*//).*\bfn \w", text, re.M)
+            self.assertEqual(len(list(functions(text))), len(lines), file)
 
     def test_edits(self):
         """Each old text of a must-fail edit stands just once in its file, as the pairs before it left that, and a new
@@ -68,6 +87,7 @@ class Sources(unittest.TestCase):
         unused = []
         for file, text in files("src/**/*.rt", "specs/**/*.antt", "proofs/**/*.antt"):
             body = re.sub("(--|//).*", "", IMPORT.sub("", text))
+            body = re.sub(r"\bwrite(ln)?!", "Write!", body)  # the trait whose method the macro calls
             for module, names, alias in IMPORT.findall(text):
                 if alias or names:
                     names = [alias] if alias else [name.split(" as ")[-1] for name in names.split(", ")]

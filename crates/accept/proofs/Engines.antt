@@ -7,9 +7,9 @@ use Rattle.semantics.specs.Exhaustive.{SlowOutcome, slow_outcome}
 use Rattle.theory.specs.Engines.{shown}
 use Rattle.theory.proofs.Engines.{engines-agree, never_10, never_15}
 use Rattle.theory.proofs.Retired.{join-never_retired, slow-never_retired}
-use Rattle.join.specs.declared.answers.Answer.{Answer as Joined}
+use Rattle.join.specs.Answers.{Given as Joined}
 use Rattle.join.specs.Answers.{Joins, leaves as joinLeaves}
-use Rattle.exhaustive.specs.declared.answers.Answer.{Answer as Tried}
+use Rattle.exhaustive.specs.Answers.{Given as Tried}
 use Rattle.exhaustive.specs.Answers.{Tries, leaves as slowLeaves}
 use Rattle.capi.specs.declared.pigrozd_answer.{pigrozd_answer as Given}
 use Rattle.capi.specs.Calls.{answer_from, Calls}

@@ -7,7 +7,7 @@ use capi_slow::pigrozd_slow_answer;
 
 // Same: both answers and both outputs are equal. Skipped: they need not be, since the join says 10 or the slow engine 15. Differ: they
 // need to be and are not, which never happens.
-#[derive(Clone, Copy)]
+#[derive(Clone, Copy, Debug, PartialEq, Eq)]
 pub enum Comparison {
     Same,
     Skipped,
@@ -26,16 +26,10 @@ pub struct Compared {
 fn same_numbers(joined: pigrozd_answer, slow: pigrozd_slow_answer) -> bool
     ensures { result ≡ same_numbers joined slow }
 {
-    if joined.number != slow.number {
-        return false;
-    }
-    if joined.detail != slow.detail {
-        return false;
-    }
-    joined.rows == slow.rows
+    (joined.number, joined.detail, joined.rows) == (slow.number, slow.detail, slow.rows)
 }
 
-// The comparison of two answers and the outputs that they left.
+// The comparison of two answers and the outputs that they left. The answers are C's, so 10 and 15 are told by their numbers.
 fn comparison_of(
     joined: pigrozd_answer,
     slow: pigrozd_slow_answer,
@@ -44,23 +38,10 @@ fn comparison_of(
 ) -> Comparison
     ensures { result ≡ comparison_of joined slow one.now other.now }
 {
-    let number = joined.number;
-    match number {
-        10 => return Comparison::Skipped,
-        _ => {}
-    }
-    let slow_number = slow.number;
-    match slow_number {
-        15 => return Comparison::Skipped,
-        _ => {}
-    }
-    if !same_numbers(joined, slow) {
-        return Comparison::Differ;
-    }
-    if words::same_words(one, other) {
-        Comparison::Same
-    } else {
-        Comparison::Differ
+    match (joined.number, slow.number) {
+        (10, _) | (_, 15) => Comparison::Skipped,
+        _ if same_numbers(joined, slow) && one == other => Comparison::Same,
+        _ => Comparison::Differ,
     }
 }
 

@@ -6,10 +6,13 @@ mod comparing;
 
 use comparing::{Compared, Comparison, compare};
 
-// One line: the answer that both gave, or the two, the join's first.
+// One line: the answer that both gave, or the two, the join's first. Refusals are printed by the same line of `report`.
 fn print(compared: Compared) {
-    let joined = compared.joined;
-    let slow = compared.slow;
+    let Compared {
+        joined,
+        slow,
+        comparison,
+    } = compared;
     let both = [
         joined.number,
         joined.detail,
@@ -18,7 +21,6 @@ fn print(compared: Compared) {
         slow.detail,
         slow.rows,
     ];
-    let comparison = compared.comparison;
     match comparison {
         Comparison::Same => report::line(b"same", &both[..3]),
         Comparison::Skipped => report::line(b"skipped", &both),
@@ -27,14 +29,12 @@ fn print(compared: Compared) {
 }
 
 fn main() {
-    let mut file = [0u8; 65537];
-    let n = io::read_full(0, &mut file);
-    if 65536 < n {
-        report::refuse(13, 65536);
+    let mut bytes = [0u8; 65537];
+    let Some(file) = report::read_file(&mut bytes) else {
         return;
-    }
+    };
     let mut scratch = [0u32; 16384];
     let mut joined = [0u32; 16384];
     let mut slow = [0u32; 16384];
-    print(compare(&file[..n], &mut scratch, &mut joined, &mut slow));
+    print(compare(file, &mut scratch, &mut joined, &mut slow));
 }

@@ -1,4 +1,3 @@
-pub mod LowCopies
 pub mod SpineTotals
 pub mod ListedRows
 pub mod ChosenRows

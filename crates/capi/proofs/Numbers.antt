@@ -3,8 +3,7 @@ use mathlib.Core.Path.{◌≡◌, ap, ◌∙◌}
 use mathlib.Core.List.{List}
 use Prim.Native.Nat.{ℕ}
 use Rattle.semantics.specs.Outcome.{Outcome}
-use Rattle.join.specs.declared.answers.Answer.{Answer as Joined}
-use Rattle.join.specs.Answers.{Joins, answer_of as joined_answer}
+use Rattle.join.specs.Answers.{Given as Joined, Joins, answer_of as joined_answer}
 use Rattle.capi.specs.declared.pigrozd_answer.{pigrozd_answer as Given}
 use Rattle.capi.specs.Calls.{answer_from, Calls}
 

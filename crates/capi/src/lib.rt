@@ -16,24 +16,23 @@ pub struct pigrozd_answer {
     pub visits: u64,
 }
 
-// Joins the tables of a file by its plan: join::join, its answer as numbers.
+// Joins the tables of a file by its plan: join::join, its answer as numbers, as C has it.
 pub fn pigrozd_join(file: &[u8], scratch: &mut [u32], output: &mut [u32]) -> pigrozd_answer
     ensures { Calls file.now scratch.old output.old scratch.new output.new result }
 {
-    let answer = join::join(file, scratch, output);
-    match answer {
-        join::Answer::Joined(rows, entries, lookups, comparisons, visits) => pigrozd_answer {
+    match join::join(file, scratch, output) {
+        Ok(joined) => pigrozd_answer {
             number: 0,
             detail: 0,
-            rows: rows as u64,
-            entries,
-            lookups,
-            comparisons,
-            visits,
+            rows: joined.rows as u64,
+            entries: joined.entries,
+            lookups: joined.lookups,
+            comparisons: joined.comparisons,
+            visits: joined.visits,
         },
-        join::Answer::Refused(number, detail) => pigrozd_answer {
-            number: number as u64,
-            detail: detail as u64,
+        Err(refusal) => pigrozd_answer {
+            number: u64::from(refusal.number()),
+            detail: refusal.detail as u64,
             rows: 0,
             entries: 0,
             lookups: 0,

@@ -32,14 +32,23 @@ pub fn pigrozd_result_at(
     ensures { ResultCalls file.now scratch.old row.old n
         scratch.new row.new result }
 {
-    let answer = access::result_at(file, scratch, n, row);
-    let rows = answer.rows;
-    let copies = answer.copies;
-    pigrozd_result_answer {
-        number: answer.number as u64,
-        detail: answer.detail as u64,
-        rows,
-        copies,
+    match access::result_at(file, scratch, n, row) {
+        Ok(found) => {
+            let rows = found.rows;
+            let copies = found.copies;
+            pigrozd_result_answer {
+                number: 0,
+                detail: 0,
+                rows,
+                copies,
+            }
+        }
+        Err(refusal) => pigrozd_result_answer {
+            number: refusal.number() as u64,
+            detail: refusal.detail as u64,
+            rows: [0u32; 16],
+            copies: [0u32; 16],
+        },
     }
 }
 
@@ -53,10 +62,16 @@ pub fn pigrozd_number_of(
     ensures { NumberCalls file.now scratch.old rows.now copies.now
         scratch.new result }
 {
-    let answer = access::number_of(file, scratch, rows, copies);
-    pigrozd_number_answer {
-        number: answer.number as u64,
-        detail: answer.detail as u64,
-        n: answer.n,
+    match access::number_of(file, scratch, rows, copies) {
+        Ok(n) => pigrozd_number_answer {
+            number: 0,
+            detail: 0,
+            n,
+        },
+        Err(refusal) => pigrozd_number_answer {
+            number: refusal.number() as u64,
+            detail: refusal.detail as u64,
+            n: 0,
+        },
     }
 }

@@ -2,8 +2,7 @@
 use mathlib.Core.Path.{◌≡◌, ◌∙◌}
 use mathlib.Core.List.{List}
 use Prim.Native.Nat.{ℕ}
-use Rattle.exhaustive.specs.declared.answers.Answer.{Answer as Tried}
-use Rattle.exhaustive.specs.Answers.{Tries, leaves}
+use Rattle.exhaustive.specs.Answers.{Given as Tried, Tries, leaves}
 use Rattle.capi_slow.specs.declared.pigrozd_slow_answer.{pigrozd_slow_answer as Given}
 use Rattle.capi_slow.specs.Calls.{slow_from, SlowCalls}
 

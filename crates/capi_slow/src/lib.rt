@@ -16,16 +16,15 @@ pub struct pigrozd_slow_answer {
 pub fn pigrozd_slow_join(file: &[u8], output: &mut [u32]) -> pigrozd_slow_answer
     ensures { SlowCalls file.now output.old output.new result }
 {
-    let answer = exhaustive::join_by_choices(file, output);
-    match answer {
-        exhaustive::Answer::Joined(rows) => pigrozd_slow_answer {
+    match exhaustive::join_by_choices(file, output) {
+        Ok(rows) => pigrozd_slow_answer {
             number: 0,
             detail: 0,
             rows: rows as u64,
         },
-        exhaustive::Answer::Refused(number, detail) => pigrozd_slow_answer {
-            number: number as u64,
-            detail: detail as u64,
+        Err(refusal) => pigrozd_slow_answer {
+            number: u64::from(refusal.number()),
+            detail: refusal.detail as u64,
             rows: 0,
         },
     }

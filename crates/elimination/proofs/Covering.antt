@@ -2,10 +2,10 @@
 use mathlib.Core.Path.{◌≡◌, refl, sym, ap, ap₂, ◌∙◌, fun_ext}
 use mathlib.Core.Bool.{Bool, true, false, ◌&&◌, not}
 use mathlib.Core.List.{List, [], ◌∷◌, ◌++◌, append-nil}
-use mathlib.Core.Option.{Option, none, some}
+use mathlib.Core.Option.{Option as Maybe, none, some}
+use Rattle.std.specs.Prelude.{Option, Some, None}
 use Prim.Native.Nat.{ℕ, suc, ◌+◌, ◌-◌, ◌<◌, ◌≤◌, zero-le}
 use native.Mathlib.Omega.{arith}
-use native.Mathlib.Nat.{sub-zero}
 use native.Mathlib.Numerals.{add-one}
 use lib.ListN.{get_or}
 use lib.Dec.{eqb}
@@ -23,8 +23,6 @@ use Rattle.words.specs.Masks.{Masked}
 use Rattle.semantics.specs.Elimination.{without, shared_in, shared_attributes, parent_of, next_of}
 use Rattle.elimination.specs.Parents.{remaining, OthersHave, first_covering, parent_found, Gathered, Uncovered}
 use Rattle.elimination.specs.Steps.{next_found, Unhung}
-use Rattle.elimination.specs.declared.parents.Parent.{Parent}
-use Rattle.elimination.specs.declared.parents.Parent.TheVariants as parent
 
 -- the numbers from u on
 pub from_next : (u n : ℕ) → u < n → from u (n - u) ≡ u ∷ from (u + 1) (n - (u + 1))
@@ -54,7 +52,7 @@ module _ (masks : List ℕ) (flags : List Bool) (t : ℕ) where
 
   -- the first that covers, of the tables from u on
   module _ (n m : ℕ) where
-    abbrev ahead : ℕ → Option ℕ
+    abbrev ahead : ℕ → Maybe ℕ
     ahead u = first_covering masks (filter (λ v. get_or flags v false) (from u (n - u))) t m
 
     ahead_next : (u : ℕ) → u < n → ahead u ≡ first_covering masks (cons_if (get_or flags u false) u (filter (λ v. get_or flags v false) (from (u + 1) (n - (u + 1))))) t m
@@ -78,14 +76,8 @@ module _ {masks : List ℕ} {flags : List Bool} {n t : ℕ} where
             ∙ ap (any (λ v. has_bit (get_or masks v 0) a)) (sym (others_more masks flags t u f d));
       }
 
-  pub gathered_all : {u have : ℕ} → Gathered masks flags n t u have → n ≤ u → OthersHave masks (remaining n flags) t have
-  gathered_all {u} {have} g l = let e : u ≡ n = omega (arith, g.within) in rw e at g.attributes
-
   -- ---- the first that covers
   module _ {m : ℕ} where
-    pub uncovered-begun : Uncovered masks flags n t m 0
-    uncovered-begun = record { within = zero-le; ahead = ap (λ k. first_covering masks (filter (λ v. get_or flags v false) (from 0 k)) t m) (sym (sub-zero n)) }
-
     pub uncovered_all : {u : ℕ} → Uncovered masks flags n t m u → n ≤ u → parent_found (first_covering masks (remaining n flags) t m) ≡ parent_found none
     unfolding without
     uncovered_all {u} g h = ap parent_found (g.ahead ∙ ap (λ l. first_covering masks (filter (λ v. get_or flags v false) l) t m) (from_none u n h))
@@ -133,21 +125,15 @@ parent_test masks flags n t have S M few h o =
     (without t rs) below))
 
 -- ---- the table that hangs next
-nowhere : (o : Option ℕ) → parent.Nowhere ≡ parent_found o → o ≡ none
+nowhere : (o : Maybe ℕ) → None ≡ parent_found o → o ≡ none
 nowhere none e = refl
-nowhere (some u) e = let z : ◌≡◌ {A = ℕ} 0 1 = cc in absurd (omega arith)
+nowhere (some u) e = cc
 
-under : (o : Option ℕ) (p : ℕ) → parent.Under p ≡ parent_found o → o ≡ some p
-under none p e = let z : ◌≡◌ {A = ℕ} 0 1 = cc in absurd (omega arith)
-under (some u) p e = let q : p ≡ u = cc in ap some (sym q)
+under : (o : Maybe ℕ) (p : ℕ) → Some p ≡ parent_found o → o ≡ some p
+under none p e = cc
+under (some u) p e = cc
 
 module _ {masks : List ℕ} {flags : List Bool} {n : ℕ} where
-  pub unhung-begun : Unhung masks flags n 0
-  unhung-begun = record { within = zero-le; ahead = λ S M. ap (λ k. next_of S (remaining n flags) (filter (λ v. get_or flags v false) (from 0 k))) (sym (sub-zero n)) }
-
-  pub unhung_all : {t : ℕ} → Unhung masks flags n t → n ≤ t → (S : Shape) → Masked masks S → next_found (next_of S (remaining n flags) (remaining n flags)) ≡ next_found none
-  unhung_all {t} g h S M = ap next_found (g.ahead S M ∙ ap (λ l. next_of S (remaining n flags) (filter (λ v. get_or flags v false) l)) (from_none t n h))
-
   pub unhung_gone : {t : ℕ} → Unhung masks flags n t → t < n → get_or flags t false ≡ false → Unhung masks flags n (t + 1)
   unhung_gone {t} g h f =
       record {
@@ -155,14 +141,14 @@ module _ {masks : List ℕ} {flags : List Bool} {n : ℕ} where
         ahead = λ S M. g.ahead S M ∙ ap (λ l. next_of S (remaining n flags) (filter (λ v. get_or flags v false) l)) (from_next t n h) ∙ rw f;
       }
 
-  pub unhung_more : {t : ℕ} → Unhung masks flags n t → t < n → get_or flags t false ≡ true → (r : Parent) → ((S : Shape) → Masked masks S → r ≡ parent_found (parent_of S (remaining n flags) t)) → r ≡ parent.Nowhere → Unhung masks flags n (t + 1)
+  pub unhung_more : {t : ℕ} → Unhung masks flags n t → t < n → get_or flags t false ≡ true → (r : Option ℕ) → ((S : Shape) → Masked masks S → r ≡ parent_found (parent_of S (remaining n flags) t)) → r ≡ None → Unhung masks flags n (t + 1)
   unhung_more {t} g h f r p q =
       record {
         within = omega arith;
         ahead = λ S M. g.ahead S M ∙ ap (λ l. next_of S (remaining n flags) (filter (λ v. get_or flags v false) l)) (from_next t n h) ∙ rw (f, nowhere (parent_of S (remaining n flags) t) (sym q ∙ p S M), next_of);
       }
 
-  pub hung_here : {t : ℕ} (u : ℕ) → Unhung masks flags n t → t < n → get_or flags t false ≡ true → (r : Parent) → ((S : Shape) → Masked masks S → r ≡ parent_found (parent_of S (remaining n flags) t)) → r ≡ parent.Under u → (S : Shape) → Masked masks S
+  pub hung_here : {t : ℕ} (u : ℕ) → Unhung masks flags n t → t < n → get_or flags t false ≡ true → (r : Option ℕ) → ((S : Shape) → Masked masks S → r ≡ parent_found (parent_of S (remaining n flags) t)) → r ≡ Some u → (S : Shape) → Masked masks S
       → next_found (next_of S (remaining n flags) (remaining n flags)) ≡ next_found (some (record { child = t; parent = u }))
   hung_here {t} u g h f r p q S M =
       let here : next_of S (remaining n flags) (cons_if (get_or flags t false) t (filter (λ v. get_or flags v false) (from (t + 1) (n - (t + 1))))) ≡ some (record { child = t; parent = u }) = rw (f, under (parent_of S (remaining n flags) t) u (sym q ∙ p S M), next_of) in

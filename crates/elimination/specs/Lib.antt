@@ -1,4 +1,5 @@
 pub mod Parents
+pub mod Remain
 pub mod Steps
 pub mod Writing
 pub mod Searches

@@ -1,14 +1,12 @@
 -- What the search for a table's parent promises, over the masks and the flags of the tables that remain.
-use Rattle.std.specs.Prelude.{◌≡◌, Bool, false, List, ℕ, ◌-◌, ◌≤◌, get_or, eqb}
-use Rattle.std.proofs.Math.Option.{Option, none, some}
+use Rattle.std.specs.Prelude.{◌≡◌, Bool, false, List, ℕ, ◌-◌, ◌≤◌, get_or, eqb, Option, Some, None}
+use Rattle.std.proofs.Math.Option.{Option as Maybe, none, some}
 use Rattle.std.specs.Int.Bits.{bit_and}
 use Rattle.semantics.specs.Lists.{any, filter, first, from}
 use Rattle.semantics.specs.Files.{has_bit}
 use Rattle.semantics.specs.Shapes.{Shape}
 use Rattle.semantics.specs.Elimination.{without, parent_of}
 use Rattle.words.specs.Masks.{Masked}
-use Rattle.elimination.specs.declared.parents.Parent.{Parent}
-use Rattle.elimination.specs.declared.parents.Parent.TheVariants as parent
 
 -- the tables below n whose flag stands, rising
 abbrev pub remaining : ℕ → List Bool → List ℕ
@@ -19,15 +17,16 @@ abbrev pub OthersHave : List ℕ → List ℕ → ℕ → ℕ → Type 0
 OthersHave masks rs t m = (a : ℕ) → has_bit m a ≡ any (λ u. has_bit (get_or masks u 0) a) (without t rs)
 
 -- the first of the tables rs but t that has all attributes of the mask
-abbrev pub first_covering : List ℕ → List ℕ → ℕ → ℕ → Option ℕ
+abbrev pub first_covering : List ℕ → List ℕ → ℕ → ℕ → Maybe ℕ
 first_covering masks rs t m = first (λ u. eqb (bit_and m (get_or masks u 0)) m) (without t rs)
 
-abbrev pub parent_found : Option ℕ → Parent
-parent_found none = parent.Nowhere
-parent_found (some u) = parent.Under u
+-- the code's word for the table that is found
+abbrev pub parent_found : Maybe ℕ → Option ℕ
+parent_found none = None
+parent_found (some u) = Some u
 
 -- r is the parent of t, whatever tables have these masks
-abbrev pub ParentIn : List ℕ → List ℕ → ℕ → Parent → Type 0
+abbrev pub ParentIn : List ℕ → List ℕ → ℕ → Option ℕ → Type 0
 ParentIn masks rs t r = (S : Shape) → Masked masks S → r ≡ parent_found (parent_of S rs t)
 
 -- ---- what the searches keep

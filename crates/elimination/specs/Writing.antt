@@ -1,10 +1,10 @@
 -- What the writing of a plan promises.
-use Rattle.std.specs.Prelude.{◌≡◌, Bool, false, ◌||◌, List, [], ◌∷◌, ◌++◌, ℕ, ◌+◌, ◌≤◌, ◌<◌, length, get_or, replicate, eqb}
+use Rattle.std.specs.Prelude.{◌≡◌, Bool, false, ◌||◌, List, [], ◌∷◌, ◌++◌, ℕ, ◌+◌, ◌≤◌, ◌<◌, length, get_or, replicate, eqb, Option}
 use Rattle.semantics.specs.Lists.{filter, concat_map, from}
 use Rattle.theory.specs.Elements.{only_if}
 use Rattle.semantics.specs.Plans.{encode}
 use Rattle.semantics.specs.Elimination.{Hanging, plan_under}
-use Rattle.elimination.specs.Steps.{hung_under, ParentsAre}
+use Rattle.elimination.specs.Steps.{hung_under, is_parent, ParentsAre}
 
 -- c hangs
 abbrev pub is_hung : List Hanging → ℕ → Bool
@@ -18,8 +18,8 @@ HungOnce n (h ∷ hs) =
     (h.child < n) × (is_hung hs h.child ≡ false) × (is_hung hs h.parent ≡ false) × (h.parent ≡ h.child → ⊥) × HungOnce n hs
 
 -- how many of the tables below n hang under t
-abbrev pub child_count : List ℕ → ℕ → ℕ → ℕ
-child_count parents t n = length (filter (λ c. eqb (get_or parents c 0) t) (from 0 n))
+abbrev pub child_count : List (Option ℕ) → ℕ → ℕ → ℕ
+child_count parents t n = length (filter (is_parent parents t) (from 0 n))
 
 -- the bytes stand in code from index at up to next; what is before at is as it was in old
 pub record Wrote (old : List ℕ) (at : ℕ) (bytes : List ℕ) (code : List ℕ) (next : ℕ) : Type 0 where
@@ -29,7 +29,7 @@ pub record Wrote (old : List ℕ) (at : ℕ) (bytes : List ℕ) (code : List ℕ
   pub here : (i : ℕ) → i < length bytes → get_or code (at + i) 0 ≡ get_or bytes i 0
 
 -- the parents are those of what hangs, and the plan of t fits
-pub record Writable (parents : List ℕ) (n t at : ℕ) : Type 0 where
+pub record Writable (parents : List (Option ℕ)) (n t at : ℕ) : Type 0 where
   pub few : n ≤ 16
   pub below : t < 16
   pub hung : List Hanging
@@ -38,20 +38,15 @@ pub record Writable (parents : List ℕ) (n t at : ℕ) : Type 0 where
   pub fits : at + length (encode (plan_under hung t)) ≤ 31
 
 -- the plan of t is written
-abbrev pub PlanWrote : List ℕ → ℕ → ℕ → List ℕ → ℕ → List ℕ → ℕ → Type 0
+abbrev pub PlanWrote : List (Option ℕ) → ℕ → ℕ → List ℕ → ℕ → List ℕ → ℕ → Type 0
 PlanWrote parents n t old at code next =
     (hs : List Hanging) → HungOnce n hs → ParentsAre parents hs → Wrote old at (encode (plan_under hs t)) code next
 
--- an FF is written for each child below c
-pub record Joining (parents : List ℕ) (n t : ℕ) (old : List ℕ) (at : ℕ) (code : List ℕ) (next c : ℕ) : Type 0 where
-  pub within : c ≤ n
-  pub wrote : Wrote old at (replicate (child_count parents t c) 255) code next
-
 -- the joins, the table, and the plans of the children below c
-abbrev pub plans_below : List ℕ → ℕ → ℕ → List Hanging → ℕ → List ℕ
+abbrev pub plans_below : List (Option ℕ) → ℕ → ℕ → List Hanging → ℕ → List ℕ
 plans_below parents n t hs c =
     replicate (child_count parents t n) 255 ++ (t ∷ concat_map (λ x. only_if (hung_under hs t x) (encode (plan_under hs x))) (from 0 c))
 
-pub record Planning (parents : List ℕ) (n t : ℕ) (old : List ℕ) (at : ℕ) (code : List ℕ) (next c : ℕ) : Type 0 where
+pub record Planning (parents : List (Option ℕ)) (n t : ℕ) (old : List ℕ) (at : ℕ) (code : List ℕ) (next c : ℕ) : Type 0 where
   pub within : c ≤ n
   pub wrote : (hs : List Hanging) → HungOnce n hs → ParentsAre parents hs → Wrote old at (plans_below parents n t hs c) code next

@@ -6,32 +6,25 @@ mod parents;
 mod steps;
 mod writing;
 
-ghost use Rattle.std.specs.Prelude.{◌≡◌, ◌<◌, ◌≤◌, length};
+ghost use Rattle.std.specs.Prelude.{◌<◌, ◌≤◌};
 ghost use Rattle.elimination.specs.Steps.{Shaped};
 ghost use Rattle.elimination.specs.Searches.{Searched};
 
 use crate::steps::hang_all;
-use crate::writing::write_plan;
+use crate::writing::Hung;
+use refusals::Refusal;
 
-// What a search ends with: the length of the plan, whose bytes stand at the front of the lent ones; or the lowest-numbered table that
-// remains where none can be hung.
-#[derive(Clone, Copy)]
-pub enum Search {
-    Plan(usize),
-    Stuck(usize),
-}
-
-// The plan that is found for that many tables with these masks. Where none is, the lent bytes are as they were.
-pub fn find_plan(masks: &[u32; 16], count: usize, out: &mut [u8; 31]) -> Search
-    requires { Shaped masks.now × (0 < count) × (count ≤ 16) × (length out.old ≡ 31) }
+// The plan that is found for that many tables with these masks: its length; its bytes stand at the front of the lent ones. Where none is,
+// the refusal has the lowest number of a table that remains, and the lent bytes are as they were.
+pub fn find_plan(masks: &[u32; 16], count: usize, out: &mut [u8; 31]) -> Result<usize, Refusal>
+    requires { Shaped masks.now × (0 < count) × (count ≤ 16) }
     ensures { Searched masks.now count out.old out.new result }
 {
-    let hung = hang_all(masks, count);
-    let table = hung.table;
-    if hung.stuck {
-        return Search::Stuck(table);
-    }
-    let parents = hung.parents;
-    let end = write_plan(&parents, count, table, out, 0);
-    Search::Plan(end)
+    let mut parents = [None; 16];
+    let root = hang_all(masks, count, &mut parents)?;
+    let hung = Hung {
+        parents: &parents,
+        count,
+    };
+    Ok(hung.write_plan(root, out, 0))
 }

@@ -1,63 +1,50 @@
-// The table under which one hangs: the lowest-numbered other remaining one that has all attributes it shares with them.
+// The tables that remain, and the one of them under which a table hangs: the lowest-numbered other one that has all attributes it shares
+// with them.
 ghost use Rattle.std.specs.Prelude.{◌≡◌, ◌<◌, ◌≤◌};
-ghost use Rattle.elimination.specs.Parents.{remaining, OthersHave, first_covering, parent_found, ParentIn};
+ghost use Rattle.elimination.specs.Parents.{OthersHave, first_covering, parent_found, ParentIn};
 
-// The table under which one hangs, where there is one.
+// The tables that remain: the masks of all tables, which of them remain, and how many tables there are.
 #[derive(Clone, Copy)]
-pub enum Parent {
-    Under(usize),
-    Nowhere,
+pub(crate) struct Remaining<'a> {
+    pub(crate) masks: &'a [u32; 16],
+    pub(crate) flags: [bool; 16],
+    pub(crate) count: usize,
+    ghost few: { count ≤ 16 },
 }
 
-// The attributes of the remaining tables but t.
-fn others(masks: &[u32; 16], rest: &[bool; 16], count: usize, t: usize) -> u32
-    requires { count ≤ 16 }
-    ensures { OthersHave masks.now (remaining count rest.now) t result }
-{
-    let mut have = 0;
-    let mut u = 0;
-    while u < count {
-        if rest[u] {
-            if u != t {
-                have = have | masks[u];
+impl Remaining<'_> {
+    ghost use Rattle.elimination.specs.Remain.{tables_of};
+
+    // The attributes of the remaining tables but t.
+    fn others(&self, t: usize) -> u32
+        ensures { OthersHave self.now.masks.now (tables_of self.now) t result }
+    {
+        let mut have = 0;
+        for u in 0..self.count {
+            if self.flags[u] && u != t {
+                have |= self.masks[u];
             }
         }
-        u += 1;
+        have
     }
-    have
-}
 
-// The lowest-numbered of the remaining tables but t that has these attributes.
-fn first_covering(
-    masks: &[u32; 16],
-    rest: &[bool; 16],
-    count: usize,
-    t: usize,
-    shared: u32,
-) -> Parent
-    requires { count ≤ 16 }
-    ensures { result ≡ parent_found (first_covering masks.now (remaining count rest.now) t shared) }
-{
-    let mut c = 0;
-    while c < count {
-        if rest[c] {
-            if c != t {
-                if shared & masks[c] == shared {
-                    return Parent::Under(c);
-                }
+    // The lowest-numbered of the remaining tables but t that has these attributes.
+    fn first_covering(&self, t: usize, shared: u32) -> Option<usize>
+        ensures { result ≡ parent_found (first_covering self.now.masks.now (tables_of self.now) t shared) }
+    {
+        for c in 0..self.count {
+            if self.flags[c] && c != t && shared & self.masks[c] == shared {
+                return Some(c);
             }
         }
-        c += 1;
+        None
     }
-    Parent::Nowhere
-}
 
-// The table under which t hangs.
-pub(crate) fn parent_of(masks: &[u32; 16], rest: &[bool; 16], count: usize, t: usize) -> Parent
-    requires { (count ≤ 16) × (t < 16) }
-    ensures { ParentIn masks.now (remaining count rest.now) t result }
-{
-    let have = others(masks, rest, count, t);
-    let shared = masks[t] & have;
-    first_covering(masks, rest, count, t, shared)
+    // The table under which t hangs.
+    pub(crate) fn parent_of(&self, t: usize) -> Option<usize>
+        requires { t < 16 }
+        ensures { ParentIn self.now.masks.now (tables_of self.now) t result }
+    {
+        self.first_covering(t, self.masks[t] & self.others(t))
+    }
 }

@@ -1,90 +1,72 @@
 // The repeated step: the lowest-numbered table that can be hung is hung, until one is left or none can be.
-ghost use Rattle.std.specs.Prelude.{◌≡◌, ◌<◌, ◌≤◌};
+ghost use Rattle.std.specs.Prelude.{◌≡◌, ◌<◌, ◌≤◌, set, replicate, false, IfSome};
 ghost use Rattle.semantics.specs.Elimination.{lowest};
-ghost use Rattle.elimination.specs.Parents.{remaining};
+ghost use Rattle.elimination.specs.Remain.{tables_of};
 ghost use Rattle.elimination.specs.Steps.{NextIn, Shaped, HungAll};
 
-use crate::parents::{Parent, parent_of};
+use crate::parents::Remaining;
+use refusals::{Reason, Refusal};
 
-// The table that hangs next and the one under which it hangs, where there is one.
-#[derive(Clone, Copy)]
-pub enum NextHanging {
-    Hang(usize, usize),
-    Nothing,
-}
-
-// The lowest-numbered remaining table that can be hung.
-fn next_hanging(masks: &[u32; 16], rest: &[bool; 16], count: usize) -> NextHanging
-    requires { count ≤ 16 }
-    ensures { NextIn masks.now (remaining count rest.now) result }
-{
-    let mut t = 0;
-    while t < count {
-        if rest[t] {
-            let parent = parent_of(masks, rest, count, t);
-            if let Parent::Under(p) = parent {
-                return NextHanging::Hang(t, p);
+impl Remaining<'_> {
+    // The lowest-numbered remaining table that can be hung, and the one under which it hangs.
+    fn next_hanging(&self) -> Option<(usize, usize)>
+        ensures next { NextIn self.now.masks.now (tables_of self.now) result }
+        ensures small { IfSome result (λ x. x.0 < 16) }
+    {
+        for t in 0..self.count {
+            if self.flags[t]
+                && let Some(parent) = self.parent_of(t)
+            {
+                return Some((t, parent));
             }
         }
-        t += 1;
+        None
     }
-    NextHanging::Nothing
+
+    // The lowest-numbered table that remains.
+    fn lowest(&self) -> usize
+        ensures { result ≡ lowest (tables_of self.now) }
+    {
+        self.flags[..self.count]
+            .iter()
+            .position(|remains| *remains)
+            .unwrap_or(0)
+    }
+
+    // A table is hung: it no longer remains.
+    fn remove(&mut self, t: usize)
+        requires { t < 16 }
+        ensures { (self.new.masks ≡ self.old.masks) × (self.new.flags ≡ set self.old.flags t false) × (self.new.count ≡ self.old.count) }
+    {
+        self.flags[t] = false;
+    }
 }
 
-// Where the repeated step ends: the root, or the lowest table that remains where none can be hung; and the table under which
-// each hangs, 16 for one that does not.
-#[derive(Clone, Copy)]
-pub struct Hung {
-    pub stuck: bool,
-    pub table: usize,
-    pub parents: [usize; 16],
-}
-
-// The lowest-numbered table that remains.
-fn lowest_remaining(rest: &[bool; 16], count: usize) -> usize
-    requires { count ≤ 16 }
-    ensures { result ≡ lowest (remaining count rest.now) }
+// All tables but one hung, as far as they can be: the root, and the parents of the others, which all have none before; or, where none can
+// be, the refusal with the lowest table that remains.
+pub(crate) fn hang_all(
+    masks: &[u32; 16],
+    count: usize,
+    parents: &mut [Option<usize>; 16],
+) -> Result<usize, Refusal>
+    requires { Shaped masks.now × (0 < count) × (count ≤ 16) × (parents.old ≡ replicate 16 None) }
+    ensures { HungAll masks.now count result parents.new }
 {
-    let mut t = 0;
-    while t < count {
-        if rest[t] {
-            return t;
-        }
-        t += 1;
+    let mut rest = Remaining {
+        masks,
+        flags: [true; 16],
+        count,
+    };
+    for _ in 1..count {
+        let Some((child, parent)) = rest.next_hanging() else {
+            let detail = rest.lowest();
+            return Err(Refusal {
+                reason: Reason::NoPlanFound,
+                detail,
+            });
+        };
+        rest.remove(child);
+        parents[child] = Some(parent);
     }
-    0
-}
-
-// All tables but one hung, as far as they can be.
-pub(crate) fn hang_all(masks: &[u32; 16], count: usize) -> Hung
-    requires { Shaped masks.now × (0 < count) × (count ≤ 16) }
-    ensures { HungAll masks.now count result }
-{
-    let mut rest = [true; 16];
-    let mut parents = [16usize; 16];
-    let mut left = count - 1;
-    while 0 < left {
-        let next = next_hanging(masks, &rest, count);
-        match next {
-            NextHanging::Hang(child, parent) => {
-                rest[child] = false;
-                parents[child] = parent;
-            }
-            NextHanging::Nothing => {
-                let table = lowest_remaining(&rest, count);
-                return Hung {
-                    stuck: true,
-                    table,
-                    parents,
-                };
-            }
-        }
-        left -= 1;
-    }
-    let table = lowest_remaining(&rest, count);
-    Hung {
-        stuck: false,
-        table,
-        parents,
-    }
+    Ok(rest.lowest())
 }

@@ -1,8 +1,11 @@
-// The answer of a join.
+// The answer of a join that is not refused.
 
-// Joined: OUT, entries, lookups, comparisons and visits. Refused: the number and its detail.
-#[derive(Clone, Copy)]
-pub enum Answer {
-    Joined(usize, u64, u64, u64, u64),
-    Refused(u32, usize),
+// OUT, and the four counts.
+#[derive(Clone, Copy, Debug, PartialEq, Eq)]
+pub struct Joined {
+    pub rows: usize,
+    pub entries: u64,
+    pub lookups: u64,
+    pub comparisons: u64,
+    pub visits: u64,
 }

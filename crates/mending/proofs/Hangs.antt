@@ -1,39 +1,33 @@
 -- Hanging in bytes.
-use mathlib.Core.Path.{◌≡◌, refl, sym, ap, ap₂, ◌∙◌, subst}
+use mathlib.Core.Path.{◌≡◌, refl, sym, ap, ap₂, ◌∙◌}
 use mathlib.Core.Bool.{Bool, true, false}
 use mathlib.Core.List.{List, [], ◌∷◌, ◌++◌, append_assoc, append-nil}
 use Prim.Native.Nat.{ℕ, zero, suc, ◌+◌, ◌-◌, ◌≤◌, ◌<◌, zero-le}
 use native.Mathlib.Omega.{arith}
-use native.Mathlib.Nat.{zero-add, add-zero}
-use lib.ListN.{length, get_or, set, take, drop, replicate, length-append, length-replicate, length-drop, get_or-append, get_or-replicate}
-use lib.Seq.{take_all, take-length, get_or-append_seam, get_or-append-add, get_or-drop, take_at, drop_at}
+use lib.ListN.{length, get_or, set, take, drop, replicate, length-append, length-replicate, length-drop, length-set, get_or-append, get_or-replicate}
+use lib.Seq.{take_all, get_or-append_seam, get_or-append-add, take_at, drop_at}
 use lib.Dec.{eqb, ltb}
+use Rattle.std.specs.Prelude.{IsSome}
+use Rattle.std.specs.List.{position}
+use borrow.Rule.Slice.PartMut.{put_mid, same_len_mid}
+use Rattle.std.proofs.lemmas.Slice.{take-put_mid}
+use Rattle.std.proofs.lemmas.List.{length-take-le}
 use borrow.Author.Tests.{eqb-true, eqb-false, eq-eqb, lt-ltb, ltb-true, ltb-false}
 use Rattle.semantics.specs.Lists.{any, filter, head_of}
 use Rattle.semantics.specs.Plans.{Plan, scan, join, encode, leftmost}
 use Rattle.theory.proofs.Cases.{cases, or_cases}
 use Rattle.semantics.specs.JoinTrees.{names_table, hang_under}
 use Rattle.mending.proofs.Around.{EndsInTable, Around, around}
-use Rattle.words.proofs.Arrays.{take_last, take-set}
+use Rattle.words.proofs.Arrays.{take-set}
 use Rattle.mending.specs.Places.{PlanAt, Planned}
 use Rattle.mending.proofs.Places.{stands, plan_span}
-use Rattle.mending.specs.Hanging.{holds_key, candidates, HolderAt, FirstHolder, RunStart, Spells}
+use Rattle.mending.specs.Hanging.{holds_key, held_by, candidates, RunStart, Spells, Hangable, HangsAt, TreeHung}
+use Rattle.mending.proofs.Holders.{HolderAt, FirstAt, holder_found}
 use Rattle.mending.proofs.Bytes.{found-names, names_small, plan_small}
-
--- ---- copying
-pub copy_more : (source out before : List ℕ) (from to k : ℕ) → from + k < length source → to + k < length out → take (to + k) out ≡ before ++ take k (drop from source)
-    → take (to + (k + 1)) (set out (to + k) (get_or source (from + k) 0)) ≡ before ++ take (k + 1) (drop from source)
-copy_more source out before from to k a b e =
-    let z : to + (k + 1) ≡ to + k + 1 = omega arith in
-    ap (λ n. take n (set out (to + k) (get_or source (from + k) 0))) z
-    ∙ take-set out (to + k) (get_or source (from + k) 0) b
-    ∙ ap (λ l. l ++ (get_or source (from + k) 0 ∷ [])) e
-    ∙ append_assoc before (take k (drop from source)) (get_or source (from + k) 0 ∷ [])
-    ∙ ap (λ l. before ++ l) (ap (λ y. take k (drop from source) ++ (y ∷ [])) (sym (get_or-drop from source k 0)) ∙ sym (take_last (drop from source) k 0 (omega (arith, length-drop from source))))
 
 -- ---- the first holder
 -- some byte holds the key
-pub some_byte : (q r : ℕ → Bool) (bs : List ℕ) → any q (filter r bs) ≡ true → (k : ℕ) × (k < length bs) × (r (get_or bs k 0) ≡ true) × (q (get_or bs k 0) ≡ true)
+some_byte : (q r : ℕ → Bool) (bs : List ℕ) → any q (filter r bs) ≡ true → (k : ℕ) × (k < length bs) × (r (get_or bs k 0) ≡ true) × (q (get_or bs k 0) ≡ true)
 some_byte q r [] e = let z : ◌≡◌ {A = ℕ} 0 1 = cc in absurd (omega arith)
 some_byte q r (b ∷ bs) e =
     cases (r b)
@@ -91,13 +85,13 @@ module _ (own b rest behind : List ℕ) (r x : ℕ) (e : own ≡ b ++ ((replicat
       ∙ ap (λ n. get_or (replicate r 255 ++ (x ∷ (rest ++ behind))) n 0) (sym (length-replicate {A = ℕ} r 255))
       ∙ get_or-append_seam (replicate r 255) x (rest ++ behind) 0
 
-  module _ (masks : List ℕ) (key j i : ℕ) (z : get_or own j 0 ≡ x) (early : any (eqb x) b ≡ false) (ends : EndsInTable b) (fh : FirstHolder masks key own j) (there : HolderAt masks key own j) (rs : RunStart own j i) where
+  module _ (masks : List ℕ) (key j i : ℕ) (z : get_or own j 0 ≡ x) (early : any (eqb x) b ≡ false) (ends : EndsInTable b) (fh : FirstAt masks key own j) (rs : RunStart own j i) where
     table_at : j ≡ length b + r
     table_at =
-        let w : get_or own j 0 < 16 = there.table in
+        let w : get_or own j 0 < 16 = fh.there.table in
         let up : j ≤ length b + r
         = cases (ltb (length b + r) j)
-        (λ h. absurd (fh.early (length b + r) (ltb-true (length b + r) j h) (record { table = rw (at_table ∙ sym z) w; holds = rw (at_table ∙ sym z) there.holds })))
+        (λ h. absurd (fh.early (length b + r) (ltb-true (length b + r) j h) (record { table = rw (at_table ∙ sym z) w; holds = rw (at_table ∙ sym z) fh.there.holds })))
         (λ h. ltb-false (length b + r) j h) in
         cases (ltb j (length b))
         (λ h. let h' : j < length b = ltb-true j (length b) h in absurd (absent_at x b j early h' (sym (at_before j h') ∙ z)))
@@ -123,21 +117,15 @@ module _ (own b rest behind : List ℕ) (r x : ℕ) (e : own ≡ b ++ ((replicat
         (λ g. let g' : length b ≤ i = ltb-false i (length b) g in omega arith))
 
 -- where the code finds the place: the run of FFs before the first holder begins the longest plan
-module _ (masks own : List ℕ) (key j i : ℕ) (p : Plan) (sp : Spells masks key own p) (fh : FirstHolder masks key own j) (rs : RunStart own j i) where
+module _ (masks own : List ℕ) (key j i : ℕ) (p : Plan) (sp : Spells masks key own p) (fh : FirstAt masks key own j) (rs : RunStart own j i) where
   own-stands : PlanAt own 0 p (length own)
   own-stands = stands p sp.small own [] [] 0 (length own) (sp.is ∙ sym (append-nil (encode p))) refl (omega (arith, ap length sp.is))
 
-  found_early : j < length own
-  found_early =
-      let (k, a, g, h) = some_byte (λ t. holds_key key (get_or masks t 0)) (λ b. ltb b 16) own (ap (λ l. any (λ t. holds_key key (get_or masks t 0)) l) (ap (filter (λ b. ltb b 16)) sp.is ∙ names_small p (plan_small own 0 p (length own) own-stands)) ∙ sp.holder) in
-      cases (ltb j (length own)) (λ e. ltb-true j (length own) e)
-      (λ e. let e' : length own ≤ j = ltb-false j (length own) e in absurd (fh.early k (omega arith) (record { table = ltb-true (get_or own k 0) 16 g; holds = h })))
-
   first_is : head_of (candidates masks key own) ≡ get_or own j 0
-  first_is = head_candidate masks key own j fh.early (fh.there found_early) found_early
+  first_is = head_candidate masks key own j fh.early fh.there fh.within
 
   first-named : names_table p (get_or own j 0) ≡ true
-  first-named = found-names own 0 p (length own) (get_or own j 0) j own-stands (fh.there found_early).table zero-le found_early refl
+  first-named = found-names own 0 p (length own) (get_or own j 0) j own-stands fh.there.table zero-le fh.within refl
 
   place : Around p (get_or own j 0)
   place = around p (get_or own j 0) sp.small first-named
@@ -150,7 +138,7 @@ module _ (masks own : List ℕ) (key j i : ℕ) (p : Plan) (sp : Spells masks ke
   begins =
       let (r, rest, e) = leading place.plan in
       run_at own place.before rest place.behind r (get_or own j 0) (parts ∙ ap (λ l. place.before ++ (l ++ place.behind)) (e ∙ ap (λ x. replicate r 255 ++ (x ∷ rest)) place.first))
-      masks key j i refl place.absent place.longest fh (fh.there found_early) rs
+      masks key j i refl place.absent place.longest fh rs
 
   plan-stands : PlanAt own i place.plan (i + length (encode place.plan))
   plan-stands = stands place.plan place.small own place.before place.behind i (i + length (encode place.plan)) parts begins refl
@@ -158,10 +146,10 @@ module _ (masks own : List ℕ) (key j i : ℕ) (p : Plan) (sp : Spells masks ke
   pub planned_there : Planned own i
   planned_there = record { plan = place.plan; end = i + length (encode place.plan); stands = plan-stands }
 
-  -- the copies put together
-  pub hung-bytes : (c : Plan) (e : ℕ) (hung out : List ℕ) → ((q : Plan) (f : ℕ) → PlanAt own i q f → e ≡ f) → hung ≡ encode c
-      → out ≡ take i own ++ (255 ∷ (take (e - i) (drop i own) ++ (hung ++ drop e own))) → out ≡ encode (hang_under (head_of (candidates masks key own)) c p)
-  hung-bytes c e hung out ends h q =
+  -- where the plan ends that is found there, a plan is hung
+  hangs_at : (e : ℕ) → ((q : Plan) (f : ℕ) → PlanAt own i q f → e ≡ f) → i ≤ e → e ≤ length own → (c : Plan)
+      → encode (hang_under (head_of (candidates masks key own)) c p) ≡ take i own ++ (255 ∷ (take (e - i) (drop i own) ++ (encode c ++ drop e own)))
+  hangs_at e ends u w c =
       let b : List ℕ = place.before in
       let m : List ℕ = encode place.plan in
       let k : List ℕ = place.behind in
@@ -170,40 +158,93 @@ module _ (masks own : List ℕ) (key j i : ℕ) (p : Plan) (sp : Spells masks ke
       let front : take i own ≡ b = ap (take i) parts ∙ take_at b (m ++ k) i (sym begins) in
       let middle : take (e - i) (drop i own) ≡ m = ap (λ l. take (e - i) l) (ap (drop i) parts ∙ drop_at b (m ++ k) i (sym begins)) ∙ take_at m k (e - i) n in
       let back : drop e own ≡ k = ap (drop e) (parts ∙ sym (append_assoc b m k)) ∙ drop_at (b ++ m) k e (omega (arith, length-append b m, begins)) in
-      q
-      ∙ ap₂ (λ f g. f ++ (255 ∷ g)) front (ap₂ (λ f g. f ++ g) middle (ap₂ (λ f g. f ++ g) h back))
-      ∙ sym (place.hung c)
-      ∙ ap (λ x. encode (hang_under x c p)) (sym first_is)
+      ap (λ x. encode (hang_under x c p)) first_is
+      ∙ place.hung c
+      ∙ sym (ap₂ (λ f g. f ++ (255 ∷ g)) front (ap₂ (λ f g. f ++ (encode c ++ g)) middle back))
 
-  pub end-inside : (e : ℕ) → ((q : Plan) (f : ℕ) → PlanAt own i q f → e ≡ f) → (i ≤ e) × (e ≤ length own)
+  end-inside : (e : ℕ) → ((q : Plan) (f : ℕ) → PlanAt own i q f → e ≡ f) → (i ≤ e) × (e ≤ length own)
   end-inside e ends = let s = plan_span own i place.plan (i + length (encode place.plan)) plan-stands in omega (arith, ends place.plan (i + length (encode place.plan)) plan-stands)
 
--- ---- the loops
-pub none_more : (masks s : List ℕ) (key j : ℕ) → ((k : ℕ) → k < j → HolderAt masks key s k → ⊥) → (HolderAt masks key s j → ⊥) → (k : ℕ) → k < j + 1 → HolderAt masks key s k → ⊥
-none_more masks s key j f n k h y =
-    cases (eqb k j) (λ e. n (subst (HolderAt masks key s) (eqb-true k j e) y)) (λ e. let d : (k ≡ j → ⊥) = eqb-false k j e in f k (omega arith) y)
+-- the place that the code finds
+pub place_found : {masks own : List ℕ} {key j i : ℕ} (e : ℕ) → Hangable masks key own → FirstAt masks key own j → RunStart own j i
+    → ((q : Plan) (f : ℕ) → PlanAt own i q f → e ≡ f) → HangsAt masks key own i e
+place_found {masks} {own} {key} {j} {i} e h fh rs ends =
+    let b = end-inside masks own key j i h.plan h.spells fh rs e ends in
+    record { from = b.0; to = b.1; hung = λ p c sp. hangs_at masks own key j i p sp fh rs e ends b.0 b.1 c }
 
+-- a plan with a holder has a first one
+pub hanger_found : (masks own : List ℕ) (key : ℕ) → Hangable masks key own → IsSome (position (held_by masks key) own)
+hanger_found masks own key h =
+    let p = h.plan in
+    let sp = h.spells in
+    let st : PlanAt own 0 p (length own) = stands p sp.small own [] [] 0 (length own) (sp.is ∙ sym (append-nil (encode p))) refl (omega (arith, ap length sp.is)) in
+    let (k, a, g, h) = some_byte (λ t. holds_key key (get_or masks t 0)) (λ b. ltb b 16) own (ap (λ l. any (λ t. holds_key key (get_or masks t 0)) l) (ap (filter (λ b. ltb b 16)) sp.is ∙ names_small p (plan_small own 0 p (length own) st)) ∙ sp.holder) in
+    holder_found masks own key k a (record { table = ltb-true (get_or own k 0) 16 g; holds = h })
+
+-- a run of FFs is longer by one
 pub run_more : (s : List ℕ) (j i : ℕ) → ((k : ℕ) → i ≤ k → k < j → get_or s k 0 ≡ 255) → 0 < i → get_or s (i - 1) 0 ≡ 255 → (k : ℕ) → i - 1 ≤ k → k < j → get_or s k 0 ≡ 255
 run_more s j i f h e k a b = cases (eqb k (i - 1)) (λ q. ap (λ n. get_or s n 0) (eqb-true k (i - 1) q) ∙ e) (λ q. let d : (k ≡ i - 1 → ⊥) = eqb-false k (i - 1) q in f k (omega arith) b)
 
-pub copy_none : (source out : List ℕ) (from to : ℕ) → take (to + 0) out ≡ take to out ++ take 0 (drop from source)
-copy_none source out from to = ap (λ n. take n out) (add-zero to) ∙ sym (append-nil (take to out))
+-- a part put back with as many bytes keeps the length
+put-size : (a k : ℕ) (xs ys : List ℕ) → length ys ≡ k → a + k ≤ length xs → length (put_mid a k xs ys) ≡ length xs
+put-size a k xs ys e h = same_len_mid a k xs ys (e ∙ sym (length-take-le k (drop a xs) (omega (arith, length-drop a xs))))
 
--- the four copies and the FF between them
-pub assembled : (own hung out o1 o2 o3 o4 : List ℕ) (i e : ℕ) → i ≤ e → e ≤ length own → length own + length hung + 1 ≤ 31 → length o1 ≡ 31
-    → take (0 + i) o1 ≡ take 0 out ++ take i (drop 0 own) → take (i + 1 + (e - i)) o2 ≡ take (i + 1) (set o1 i 255) ++ take (e - i) (drop i own)
-    → take (e + 1 + length hung) o3 ≡ take (e + 1) o2 ++ take (length hung) (drop 0 hung) → take (e + 1 + length hung + (length own - e)) o4 ≡ take (e + 1 + length hung) o3 ++ take (length own - e) (drop e own)
-    → take (length own + length hung + 1) o4 ≡ take i own ++ (255 ∷ (take (e - i) (drop i own) ++ (hung ++ drop e own)))
-assembled own hung out o1 o2 o3 o4 i e a b w l p q r s =
-    let n : length own + length hung + 1 ≡ e + 1 + length hung + (length own - e) = omega arith in
-    let m : e + 1 ≡ i + 1 + (e - i) = omega arith in
-    let one : take i o1 ≡ take i own = ap (λ k. take k o1) (sym (zero-add i)) ∙ p in
-    let mark : take (i + 1) (set o1 i 255) ≡ take i own ++ (255 ∷ []) = take-set o1 i 255 (omega arith) ∙ ap (λ l. l ++ (255 ∷ [])) one in
-    let two : take (e + 1) o2 ≡ (take i own ++ (255 ∷ [])) ++ take (e - i) (drop i own) = ap (λ k. take k o2) m ∙ q ∙ ap (λ l. l ++ take (e - i) (drop i own)) mark in
-    ap (λ k. take k o4) n
-    ∙ s
-    ∙ ap₂ (λ f g. f ++ g) (r ∙ ap₂ (λ f g. f ++ g) two (take-length hung)) (take_all (length own - e) (drop e own) (omega (arith, length-drop e own)))
-    ∙ regrouped (take i own) (take (e - i) (drop i own)) hung (drop e own)
-  where
-    regrouped : (a b c d : List ℕ) → (((a ++ (255 ∷ [])) ++ b) ++ c) ++ d ≡ a ++ (255 ∷ (b ++ (c ++ d)))
-    regrouped a b c d = simp append_assoc
+-- the FF and the copies behind the first, each of which begins where the one before it ends
+module _ (own hung first : List ℕ) (i e b k1 k2 k3 : ℕ) (u : i ≤ e) (w : e ≤ length own) (l : length own + length hung + 1 ≤ 31) (n : length first ≡ 31)
+    (q : b ≡ e + 1 + length hung) (r1 : k1 ≡ e + 1 - (i + 1)) (r2 : k2 ≡ b - (e + 1)) (r3 : k3 ≡ length own + length hung + 1 - b) where
+  abbrev mark : List ℕ
+  mark = set first i 255
+
+  abbrev part : List ℕ
+  part = take (e - i) (drop i own)
+
+  abbrev two : List ℕ
+  two = put_mid (i + 1) k1 mark part
+
+  abbrev three : List ℕ
+  three = put_mid (e + 1) k2 two hung
+
+  abbrev four : List ℕ
+  four = put_mid b k3 three (drop e own)
+
+  part-size : length part ≡ e - i
+  part-size = length-take-le (e - i) (drop i own) (omega (arith, length-drop i own))
+
+  two-size : length two ≡ 31
+  two-size = let m : length mark ≡ 31 = length-set first i 255 ∙ n in put-size (i + 1) k1 mark part (omega (arith, part-size)) (omega arith) ∙ m
+
+  three-size : length three ≡ 31
+  three-size = let m = two-size in put-size (e + 1) k2 two hung (omega arith) (omega (arith, m)) ∙ m
+
+  whole-size : length four ≡ 31
+  whole-size = let m = three-size in put-size b k3 three (drop e own) (omega (arith, length-drop e own)) (omega (arith, m)) ∙ m
+
+  assembled : take i first ≡ take i own → take (length own + length hung + 1) four ≡ take i own ++ (255 ∷ (part ++ (hung ++ drop e own)))
+  assembled z =
+      take-put_mid b k3 three (drop e own) (length own + length hung + 1) (omega (arith, length-drop e own)) (omega (arith, three-size))
+      ∙ ap (λ l. l ++ drop e own)
+      (take-put_mid (e + 1) k2 two hung b q (omega (arith, two-size))
+      ∙ ap (λ l. l ++ hung)
+      (take-put_mid (i + 1) k1 mark part (e + 1) (omega (arith, part-size)) (omega (arith, length-set first i 255, n))
+      ∙ ap (λ l. l ++ part) (take-set first i 255 (omega (arith, n)) ∙ ap (λ l. l ++ (255 ∷ [])) z)))
+      ∙ regrouped (take i own) part hung (drop e own)
+    where
+      regrouped : (a b c d : List ℕ) → (((a ++ (255 ∷ [])) ++ b) ++ c) ++ d ≡ a ++ (255 ∷ (b ++ (c ++ d)))
+      regrouped a b c d = simp append_assoc
+
+-- what the copies leave, each of which is of the bytes that it is to be
+pub copies : (masks own hung : List ℕ) (key i e : ℕ) → HangsAt masks key own i e → length own + length hung + 1 ≤ 31 → (p0 p1 p2 p3 tail : List ℕ)
+    → p0 ≡ take i own → p1 ≡ take (e - i) (drop i own) → p2 ≡ hung → p3 ≡ take (length own - e) (drop e own) → length tail ≡ 31 - i
+    → TreeHung masks key own hung
+    (put_mid (e + 1 + length hung) (length own + length hung + 1 - (e + 1 + length hung))
+    (put_mid (e + 1) (e + 1 + length hung - (e + 1)) (put_mid (i + 1) (e + 1 - (i + 1)) (set (p0 ++ tail) i 255) p1) p2) p3)
+copies masks own hung key i e h l p0 p1 p2 p3 tail q0 q1 q2 q3 t =
+    let front : length (take i own) ≡ i = length-take-le i own (omega (arith, h.from, h.to)) in
+    let n : length (take i own ++ tail) ≡ 31 = length-append (take i own) tail ∙ omega (arith, h.from, h.to) in
+    let all : take (length own - e) (drop e own) ≡ drop e own = take_all (length own - e) (drop e own) (omega (arith, length-drop e own)) in
+    rw (q0, q1, q2, q3 ∙ all) (
+      whole-size own hung (take i own ++ tail) i e _ _ _ _ h.from h.to l n refl refl refl refl,
+      λ p c sp q.
+          assembled own hung (take i own ++ tail) i e _ _ _ _ h.from h.to l n refl refl refl refl (take_at (take i own) tail i front)
+          ∙ ap (λ x. take i own ++ (255 ∷ (take (e - i) (drop i own) ++ (x ++ drop e own)))) q ∙ sym (h.hung p c sp),
+    )

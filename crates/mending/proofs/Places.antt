@@ -1,10 +1,13 @@
 -- Where a plan and its parts stand in the bytes.
 use Prim.Native.Nat.{ℕ, suc, ◌+◌, ◌<◌, ◌≤◌}
 use mathlib.Core.Path.{◌≡◌, refl, sym, ap, ◌∙◌}
+use mathlib.Core.Bool.{Bool, true, false}
 use mathlib.Core.List.{List, [], ◌∷◌, ◌++◌, append_assoc, append-nil}
 use mathlib.Core.Option.{none}
 use native.Mathlib.Omega.{arith}
 use lib.ListN.{length, get_or, length-append}
+use lib.Dec.{ltb}
+use borrow.Author.Tests.{ltb-true, ltb-false}
 use lib.Seq.{get_or-append_seam}
 use Rattle.semantics.specs.Plans.{Plan, scan, join, encode, misplaced, plan_of}
 use Rattle.theory.specs.Rules.{Small}
@@ -40,6 +43,20 @@ table_of s at n (join l r) e h = absurd (n h.1)
 -- so no other byte stands where a plan begins
 pub no_other : (s : List ℕ) (at : ℕ) → (get_or s at 0 ≡ 255 → ⊥) → 16 ≤ get_or s at 0 → Planned s at → ⊥
 no_other s at n h q = omega (arith, table_of s at n q.plan q.end q.stands)
+
+-- the test for a table, where it passes; and where it fails, at an index where a plan begins, an FF stands there
+pub tested-table : (b : ℕ) (r : Bool) → r ≡ ltb b 16 → r ≡ true → b < 16
+tested-table b r q h = ltb-true b 16 (sym q ∙ h)
+
+pub tested-large : (b : ℕ) (r : Bool) → r ≡ ltb b 16 → r ≡ false → 16 ≤ b
+tested-large b r q h = ltb-false b 16 (sym q ∙ h)
+
+pub tested-mark : (s : List ℕ) (at : ℕ) (r : Bool) → r ≡ ltb (get_or s at 0) 16 → r ≡ false → Planned s at → get_or s at 0 ≡ 255
+tested-mark s at r q h p = go p.plan p.end p.stands
+  where
+    go : (p : Plan) (e : ℕ) → PlanAt s at p e → get_or s at 0 ≡ 255
+    go (scan t) e st = let a : get_or s at 0 ≡ t = st.1 in let b : t < 16 = st.2 in absurd (omega (arith, tested-large (get_or s at 0) r q h))
+    go (join l r) e st = st.1
 
 -- the left plan of a join
 left_of_lem : (s : List ℕ) (at : ℕ) → get_or s at 0 ≡ 255 → (p : Plan) (e : ℕ) → PlanAt s at p e → Planned s (at + 1)

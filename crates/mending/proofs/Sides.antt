@@ -1,6 +1,6 @@
--- The parts of a plan, one after the other; the sides of a join, and a join taken apart for a root.
+-- The parts of a plan, one after the other, and the sides of a join.
 use mathlib.Core.Path.{◌≡◌, refl, sym, ap, ap₂, ◌∙◌, fun_ext}
-use mathlib.Core.Bool.{Bool, true, false, ◌&&◌, or-false}
+use mathlib.Core.Bool.{◌&&◌, or-false}
 use mathlib.Core.List.{List}
 use Prim.Native.Nat.{ℕ, ◌+◌, ◌*◌, ◌-◌, ◌≤◌, ◌<◌}
 use native.Mathlib.Omega.{arith}
@@ -8,7 +8,7 @@ use lib.ListN.{length, get_or, set, length-set}
 use lib.Seq.{get_or-set_same, get_or-set_other}
 use lib.Dec.{eqb}
 use lib.Bits.{bit_and, bit_or, and_le_l, or_lt}
-use borrow.Author.Tests.{eqb-true, eqb-false, lt-ltb, le-ltb}
+use borrow.Author.Tests.{eqb-true, eqb-false}
 use Rattle.semantics.specs.Lists.{all, filter}
 use Rattle.semantics.specs.Files.{has_bit}
 use Rattle.semantics.specs.Plans.{Plan, scan, join, tables}
@@ -17,9 +17,13 @@ use Rattle.semantics.specs.Mending.{holds_all}
 use Rattle.theory.proofs.Cases.{cases}
 use Rattle.words.proofs.Masks.{has_bit_and, union-any, covers}
 use Rattle.mending.specs.Places.{PlanAt}
-use Rattle.mending.specs.Parts.{shape_in, MaskWords, Parted, part_in, Surveyed, size_at, JoinIn, side_plan, choose, JoinKey, Sided, SplitAt}
+use Rattle.mending.specs.Parts.{shape_in, MaskWords, Parted, part_in, Surveyed, size_at, JoinIn, JoinAsked, side_plan, choose, slot_of, JoinKey, SideFor, SideWithin}
 use Rattle.mending.specs.Hanging.{holds_key}
+use Rattle.mending.specs.declared.parts.Hand.{Hand}
+use Rattle.mending.specs.declared.parts.Hand.TheVariants as hand
 use Rattle.mending.specs.declared.parts.Part.{Part}
+use Rattle.mending.specs.declared.parts.Side.{Side}
+use Rattle.mending.specs.declared.parts.Survey.{Survey}
 use Rattle.mending.proofs.Places.{plan_span}
 
 -- ---- a plan and its parts
@@ -43,90 +47,73 @@ two_plans masks s at q l r f g (join a b) e h =
     }
 
 -- ---- the survey, index by index
-pub record SurveyedTo (s masks ends sets : List ℕ) (i : ℕ) : Type 0 where
-  pub ends31 : length ends ≡ 31
-  pub sets31 : length sets ≡ 31
-  pub parts : (at : ℕ) (p : Plan) (e : ℕ) → at < i → PlanAt s at p e → Parted masks p e (part_in ends sets at)
+pub record SurveyedTo (s masks : List ℕ) (parts : List Part) (i : ℕ) : Type 0 where
+  pub size : length parts ≡ 31
+  pub each : (at : ℕ) (p : Plan) (e : ℕ) → at < i → PlanAt s at p e → Parted masks p e (part_in parts at)
 
-pub survey-begun : (s masks ends sets : List ℕ) → length ends ≡ 31 → length sets ≡ 31 → SurveyedTo s masks ends sets 0
-survey-begun s masks ends sets a b = record { ends31 = a; sets31 = b; parts = λ at p e h st. absurd (omega arith) }
+pub survey-begun : (s masks : List ℕ) (parts : List Part) → length parts ≡ 31 → SurveyedTo s masks parts 0
+survey-begun s masks parts a = record { size = a; each = λ at p e h st. absurd (omega arith) }
 
-pub survey_more : (s masks ends sets : List ℕ) (i : ℕ) (r : Part) → i < 31 → SurveyedTo s masks ends sets i → ((p : Plan) (e : ℕ) → PlanAt s i p e → Parted masks p e r)
-    → SurveyedTo s masks (set ends i r.next) (set sets i r.attributes) (i + 1)
-survey_more s masks ends sets i r w q f =
+pub survey_more : (s masks : List ℕ) (parts : List Part) (i : ℕ) (r : Part) → i < 31 → SurveyedTo s masks parts i → ((p : Plan) (e : ℕ) → PlanAt s i p e → Parted masks p e r)
+    → SurveyedTo s masks (set parts i r) (i + 1)
+survey_more s masks parts i r w q f =
     record {
-      ends31 = length-set ends i r.next ∙ q.ends31;
-      sets31 = length-set sets i r.attributes ∙ q.sets31;
-      parts = λ at p e h st.
+      size = length-set parts i r ∙ q.size;
+      each = λ at p e h st.
           cases (eqb at i)
           (λ g. let z : at ≡ i = eqb-true at i g in
-          rw (z, get_or-set_same ends i r.next 0 (omega (arith, q.ends31)), get_or-set_same sets i r.attributes 0 (omega (arith, q.sets31))) (f p e (rw z at st)))
+          rw (z, get_or-set_same parts i r (record { attributes = 0; next = 0 }) (omega (arith, q.size))) (f p e (rw z at st)))
           (λ g. let z : at ≡ i → ⊥ = eqb-false at i g in
-          rw (get_or-set_other ends i at r.next 0 z, get_or-set_other sets i at r.attributes 0 z) (q.parts at p e (omega arith) st));
+          rw (get_or-set_other parts i at r (record { attributes = 0; next = 0 }) z) (q.each at p e (omega arith) st));
     }
 
-pub survey_done : (s masks ends sets : List ℕ) (i : ℕ) → length s ≤ i → SurveyedTo s masks ends sets i → Surveyed s masks ends sets
-survey_done s masks ends sets i w q at p e h = q.parts at p e (omega (arith, plan_span s at p e h)) h
+pub survey_done : (s masks : List ℕ) (parts : List Part) (i : ℕ) → length s ≤ i → SurveyedTo s masks parts i → Surveyed s masks parts
+survey_done s masks parts i w q at p e h = q.each at p e (omega (arith, plan_span s at p e h)) h
 
 -- the survey gives a plan its size
-pub size_is : (s masks ends sets : List ℕ) → Surveyed s masks ends sets → (at : ℕ) (p : Plan) (e : ℕ) → PlanAt s at p e → size_at ends at ≡ e - at
-size_is s masks ends sets q at p e h = ap (λ n. n - at) (q at p e h).next
+pub size_is : (s masks : List ℕ) (parts : List Part) → Surveyed s masks parts → (at : ℕ) (p : Plan) (e : ℕ) → PlanAt s at p e → size_at parts at ≡ e - at
+size_is s masks parts q at p e h = ap (λ n. n - at) (q at p e h).next
 
 -- ---- a join: where its right plan begins and ends, and its key
-module _ (s masks ends sets : List ℕ) (at : ℕ) (q : Surveyed s masks ends sets) (x y : Plan) (m e : ℕ) (u : PlanAt s (at + 1) x m) (v : PlanAt s m y e) where
-  middle_is : get_or ends (at + 1) 0 ≡ m
-  middle_is = (q (at + 1) x m u).next
+abbrev pub middle_in : List Part → ℕ → ℕ
+middle_in parts at = (part_in parts (at + 1)).next
 
-  end_is : get_or ends (get_or ends (at + 1) 0) 0 ≡ e
-  end_is = ap (λ i. get_or ends i 0) middle_is ∙ (q m y e v).next
+abbrev pub end_in : List Part → ℕ → ℕ
+end_in parts at = (part_in parts (middle_in parts at)).next
 
-  key_of : JoinKey masks x y (bit_and (get_or sets (at + 1) 0) (get_or sets (get_or ends (at + 1) 0) 0))
-  key_of =
-      rw middle_is
-      (record {
-        word = omega (arith, and_le_l (get_or sets (at + 1) 0) (get_or sets m 0), (q (at + 1) x m u).word);
-        bits = λ a. has_bit_and (get_or sets (at + 1) 0) (get_or sets m 0) a ∙ ap₂ (λ x y. x && y) ((q (at + 1) x m u).attributes a) ((q m y e v).attributes a);
-      })
+abbrev pub key_in : List Part → ℕ → ℕ
+key_in parts at = bit_and (part_in parts (at + 1)).attributes (part_in parts (middle_in parts at)).attributes
 
-  pub sided_right : Sided masks at true x y m e (record { start = get_or ends (at + 1) 0; end = get_or ends (get_or ends (at + 1) 0) 0; key = bit_and (get_or sets (at + 1) 0) (get_or sets (get_or ends (at + 1) 0) 0); slot = 2 * at })
-  sided_right = record { start = middle_is; end = end_is; slot = refl; key = key_of }
+-- the side as the code takes it from the survey
+abbrev pub side_in : List Part → ℕ → Hand → Side
+side_in parts at hand.Left = record { start = at + 1; end = middle_in parts at; key = key_in parts at; slot = 2 * at + 1 }
+side_in parts at hand.Right = record { start = middle_in parts at; end = end_in parts at; key = key_in parts at; slot = 2 * at }
 
-  pub sided_left : Sided masks at false x y m e (record { start = at + 1; end = get_or ends (at + 1) 0; key = bit_and (get_or sets (at + 1) 0) (get_or sets (get_or ends (at + 1) 0) 0); slot = 2 * at + 1 })
-  sided_left = record { start = refl; end = middle_is; slot = refl; key = key_of }
+module _ (v : Survey) (at : ℕ) (q : JoinAsked v at) where
+  module _ (x y : Plan) (m e : ℕ) (u : PlanAt v.code.now (at + 1) x m) (w : PlanAt v.code.now m y e) where
+    middle-next : middle_in v.parts at ≡ m
+    middle-next = (q.1 (at + 1) x m u).next
 
-  -- the right plan's bytes stand behind the left one's
-  pub join_bounds : (at + 1 < get_or ends (at + 1) 0) × (get_or ends (at + 1) 0 < get_or ends (get_or ends (at + 1) 0) 0) × (get_or ends (get_or ends (at + 1) 0) 0 ≤ length s)
-  join_bounds = let a = plan_span s (at + 1) x m u in let b = plan_span s m y e v in omega (arith, middle_is, end_is)
+    end-next : end_in v.parts at ≡ e
+    end-next = ap (λ i. (part_in v.parts i).next) middle-next ∙ (q.1 m y e w).next
 
-  pub split_left : (place : ℕ) → place < get_or ends (at + 1) 0
-      → SplitAt masks at place x y m e (record { left = true; own = at + 1; size = get_or ends (at + 1) 0 - (at + 1); other = get_or ends (at + 1) 0; rest = get_or ends (get_or ends (at + 1) 0) 0 - get_or ends (at + 1) 0; key = bit_and (get_or sets (at + 1) 0) (get_or sets (get_or ends (at + 1) 0) 0) })
-  split_left place h =
-      let b = join_bounds in
-      record {
-        left = sym (lt-ltb place m (omega (arith, middle_is)));
-        own = refl;
-        other = middle_is;
-        size = omega (arith, middle_is);
-        rest = omega (arith, middle_is, end_is);
-        key = key_of;
-      }
+    key_of : JoinKey v.masks.now x y (key_in v.parts at)
+    key_of =
+        rw middle-next
+        (record {
+          word = omega (arith, and_le_l (part_in v.parts (at + 1)).attributes (part_in v.parts m).attributes, (q.1 (at + 1) x m u).word);
+          bits = λ a. has_bit_and (part_in v.parts (at + 1)).attributes (part_in v.parts m).attributes a ∙ ap₂ (λ x y. x && y) ((q.1 (at + 1) x m u).attributes a) ((q.1 m y e w).attributes a);
+        })
 
-  pub split_right : (place : ℕ) → get_or ends (at + 1) 0 ≤ place
-      → SplitAt masks at place x y m e (record { left = false; own = get_or ends (at + 1) 0; size = get_or ends (get_or ends (at + 1) 0) 0 - get_or ends (at + 1) 0; other = at + 1; rest = get_or ends (at + 1) 0 - (at + 1); key = bit_and (get_or sets (at + 1) 0) (get_or sets (get_or ends (at + 1) 0) 0) })
-  split_right place h =
-      let b = join_bounds in
-      record {
-        left = sym (le-ltb place m (omega (arith, middle_is)));
-        own = middle_is;
-        other = refl;
-        size = omega (arith, middle_is, end_is);
-        rest = omega (arith, middle_is);
-        key = key_of;
-      }
+  -- the right plan begins within the bytes
+  pub middle_small : (at + 1 < middle_in v.parts at) × (middle_in v.parts at < 31)
+  middle_small =
+      let j = q.2 in
+      omega (arith, middle-next j.left j.right j.middle j.end j.lefts j.rights, plan_span v.code.now (at + 1) j.left j.middle j.lefts, plan_span v.code.now j.middle j.right j.end j.rights, q.0)
 
-pub surveyed_bounds : (s masks ends sets : List ℕ) (at : ℕ) → Surveyed s masks ends sets → JoinIn s at
-    → (at + 1 < get_or ends (at + 1) 0) × (get_or ends (at + 1) 0 < get_or ends (get_or ends (at + 1) 0) 0) × (get_or ends (get_or ends (at + 1) 0) 0 ≤ length s)
-surveyed_bounds s masks ends sets at q j = join_bounds s masks ends sets at q j.left j.right j.middle j.end j.lefts j.rights
+  pub sided : (h : Hand) → SideFor v at h (side_in v.parts at h)
+  sided hand.Right x y m e u w = record { start = middle-next x y m e u w; end = end-next x y m e u w; slot = refl; key = key_of x y m e u w }
+  sided hand.Left x y m e u w = record { start = refl; end = middle-next x y m e u w; slot = refl; key = key_of x y m e u w }
 
 -- the join is a plan
 pub join_stands : {s : List ℕ} {at : ℕ} (j : JoinIn s at) → PlanAt s at (join j.left j.right) j.end
@@ -138,6 +125,28 @@ unfolding holds_key holds_all join_attributes shared holds shape_in
 key-holds masks rows x y key q t = covers key (get_or masks t 0) q.word ∙ ap (λ g. all (has_bit (get_or masks t 0)) (filter g attributes)) (fun_ext (λ a. q.bits a))
 
 -- the plan of a side
-pub side-stands : (s : List ℕ) (at : ℕ) (right : Bool) (x y : Plan) (m e : ℕ) → PlanAt s (at + 1) x m → PlanAt s m y e → PlanAt s (choose right m (at + 1)) (side_plan right x y) (choose right e m)
-side-stands s at true x y m e u v = v
-side-stands s at false x y m e u v = u
+side-stands : (s : List ℕ) (at : ℕ) (h : Hand) (x y : Plan) (m e : ℕ) → PlanAt s (at + 1) x m → PlanAt s m y e → PlanAt s (choose h m (at + 1)) (side_plan h x y) (choose h e m)
+side-stands s at hand.Right x y m e u v = v
+side-stands s at hand.Left x y m e u v = u
+
+-- a side's slot, and that its bytes lie inside the join's, which ends at e
+pub side_bounds : (v : Survey) (at : ℕ) (h : Hand) (side : Side) → SideFor v at h side → (q : JoinAsked v at)
+    → (side.slot < 64) × (at < side.start) × (side.start < side.end) × (side.end ≤ q.2.end) × (q.2.end ≤ length v.code.now) × (length v.code.now ≤ 31)
+side_bounds v at h side f q =
+    let j = q.2 in
+    let s = f j.left j.right j.middle j.end j.lefts j.rights in
+    go h s.slot s.start s.end (plan_span v.code.now (at + 1) j.left j.middle j.lefts) (plan_span v.code.now j.middle j.right j.end j.rights) q.0
+  where
+    go : (h : Hand) → {m e n : ℕ} → side.slot ≡ slot_of h at → side.start ≡ choose h m (at + 1) → side.end ≡ choose h e m
+        → (at + 1 < m) × (m ≤ n) × (at + 1 < n) → (m < e) × (e ≤ n) × (m < n) → n ≤ 31
+        → (side.slot < 64) × (at < side.start) × (side.start < side.end) × (side.end ≤ e) × (e ≤ n) × (n ≤ 31)
+    go hand.Right p q r a b c = omega arith
+    go hand.Left p q r a b c = omega arith
+
+-- its plan stands there
+pub side_there : (v : Survey) (at : ℕ) (h : Hand) (side : Side) → SideFor v at h side → (x y : Plan) (m e : ℕ) → PlanAt v.code.now (at + 1) x m → PlanAt v.code.now m y e
+    → PlanAt v.code.now side.start (side_plan h x y) side.end
+side_there v at h side f x y m e u w = let q = f x y m e u w in rw (q.start, q.end) (side-stands v.code.now at h x y m e u w)
+
+pub side-within : (v : Survey) (at : ℕ) (q : JoinAsked v at) (h : Hand) → SideWithin v.code.now (side_in v.parts at h)
+side-within v at q h = let b = side_bounds v at h (side_in v.parts at h) (sided v at q h) q in omega (arith, b)

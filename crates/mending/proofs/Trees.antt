@@ -1,216 +1,209 @@
 -- A join that can be mended, taken apart for a root: what its two sides come to.
 use mathlib.Core.Path.{◌≡◌, refl, sym, ap, ap₂, ◌∙◌}
-use mathlib.Core.Bool.{true, false}
+use mathlib.Core.Bool.{Bool, true, false}
 use mathlib.Core.List.{List}
 use Prim.Native.Nat.{ℕ, ◌+◌, ◌≤◌, ◌<◌}
 use native.Mathlib.Omega.{arith}
-use lib.ListN.{length, get_or}
+use lib.ListN.{get_or}
+use lib.Dec.{ltb}
 use borrow.Author.Tests.{ltb-true, ltb-false}
 use Rattle.semantics.specs.Lists.{any}
 use Rattle.semantics.specs.Plans.{Plan, scan, join, tables}
-use Rattle.semantics.specs.Shapes.{join_attributes}
+use Rattle.semantics.specs.Shapes.{Shape, join_attributes}
 use Rattle.semantics.specs.JoinTrees.{names_table}
-use Rattle.semantics.specs.Mending.{holds_all, holders, hang, cost, tree_for, right_root, left_root}
+use Rattle.semantics.specs.Mending.{holds_all, holders, hang, cost, tree_for}
 use Rattle.theory.specs.Selections.{Mendable}
 use Rattle.theory.proofs.Cases.{cases}
 use Rattle.theory.proofs.Lists.{non_empty-filter}
-use Rattle.theory.proofs.Mending.{tree_for_left, tree_for_right, cost_left, cost_right, left-holds, right-holds, right_root-holder, left_root-holder}
+use Rattle.theory.proofs.Mending.{tree_for_left, tree_for_right, cost_left, cost_right, right_root-holder, left_root-holder}
 use Rattle.mending.specs.Places.{PlanAt, Planned}
-use Rattle.mending.specs.Parts.{shape_in, size_at, JoinIn, side_plan, SplitAt}
-use Rattle.mending.specs.Hanging.{holds_key}
-use Rattle.mending.specs.Rooting.{added, side_root, RootPicked, Distinct, Given, Buildable, MendableAt}
-use Rattle.mending.specs.declared.parts.Split.{Split}
+use Rattle.mending.specs.Parts.{shape_in, JoinIn, other_hand, side_plan, choose, hand_at, JoinAsked, SideFor, HandFor}
+use Rattle.mending.specs.Rooting.{added, side_root, RootPicked, Given, Buildable, MendableAt}
+use Rattle.mending.specs.declared.parts.Hand.{Hand}
+use Rattle.mending.specs.declared.parts.Hand.TheVariants as hand
+use Rattle.mending.specs.declared.parts.Side.{Side}
+use Rattle.mending.specs.declared.parts.Survey.{Survey}
 use Rattle.mending.specs.declared.rooting.Candidate.{Candidate}
+use Rattle.mending.proofs.Places.{tested-mark}
 use Rattle.mending.proofs.Bytes.{plan_unique, planned-join, found-names, named_small, named-inside, named_left}
-use Rattle.mending.proofs.Sides.{size_is, join_stands, key-holds}
-use Rattle.mending.proofs.Roots.{side_root_right, side_root_left, cost_small, added_small}
+use Rattle.mending.proofs.Sides.{join_stands, side_there}
+use Rattle.mending.proofs.Roots.{side_root_right, side_root_left, cost_small, added_small, side-holders, side-mendable, SideKnown, join_asked}
 
--- the side with the root, and the other with its chosen root
-pub record SplitSides (s masks rows : List ℕ) (at place : ℕ) (split : Split) : Type 0 where
-  pub left : Plan
-  pub right : Plan
-  pub middle : ℕ
-  pub end : ℕ
-  pub lefts : PlanAt s (at + 1) left middle
-  pub rights : PlanAt s middle right end
-  pub mendable : Mendable (shape_in masks rows) (join left right)
-  pub own : Plan
-  pub other : Plan
-  pub chosen : ℕ
-  pub is_chosen : chosen ≡ side_root (shape_in masks rows) split.left left right
-  pub own_stands : PlanAt s split.own own (split.own + split.size)
-  pub other_stands : PlanAt s split.other other (split.other + split.rest)
-  pub own_mendable : Mendable (shape_in masks rows) own
-  pub other_mendable : Mendable (shape_in masks rows) other
-  pub own_named : names_table own (get_or s place 0) ≡ true
-  pub other_named : names_table other chosen ≡ true
-  pub own_place : (split.own ≤ place) × (place < split.own + split.size)
-  pub holder : any (holds_all (shape_in masks rows) (join_attributes (shape_in masks rows) left right)) (tables own) ≡ true
-  pub key : (t : ℕ) → holds_key split.key (get_or masks t 0) ≡ holds_all (shape_in masks rows) (join_attributes (shape_in masks rows) left right) t
-  pub tree : tree_for (shape_in masks rows) (join left right) (get_or s place 0) ≡ hang (shape_in masks rows) (join_attributes (shape_in masks rows) left right) (tree_for (shape_in masks rows) other chosen) (tree_for (shape_in masks rows) own (get_or s place 0))
-  pub costs : cost (shape_in masks rows) (join left right) (get_or s place 0) ≡ cost (shape_in masks rows) own (get_or s place 0) + (cost (shape_in masks rows) other chosen + added (shape_in masks rows) split.left chosen)
-  pub other_is : other ≡ side_plan split.left left right
-  pub room : at + (split.size + split.rest + 1) ≡ end
+-- what a root comes to that lies in that side of the join of l and r
+pub record LiesIn (S : Shape) (l r : Plan) (at m e place x : ℕ) (h : Hand) : Type 0 where
+  pub from : choose h m (at + 1) ≤ place
+  pub to : place < choose h e m
+  pub tree : tree_for S (join l r) x ≡ hang S (join_attributes S l r) (tree_for S (side_plan (other_hand h) l r) (side_root S (other_hand h) l r)) (tree_for S (side_plan h l r) x)
+  pub costs : cost S (join l r) x ≡ cost S (side_plan h l r) x + (cost S (side_plan (other_hand h) l r) (side_root S (other_hand h) l r) + added S (other_hand h) (side_root S (other_hand h) l r))
 
-module _ (s masks rows : List ℕ) (at place : ℕ) (split : Split) (l r : Plan) (m e : ℕ) (u : PlanAt s (at + 1) l m) (v : PlanAt s m r e) (ok : Mendable (shape_in masks rows) (join l r))
-    (d : Distinct s) (w : get_or s place 0 < 16) (after : at < place) (before : place < e) (q : SplitAt masks at place l r m e split) where
-  left-any : any (holds_all (shape_in masks rows) (join_attributes (shape_in masks rows) l r)) (tables l) ≡ true
-  left-any = sym (non_empty-filter (holds_all (shape_in masks rows) (join_attributes (shape_in masks rows) l r)) (tables l)) ∙ (unfold holders in left-holds (shape_in masks rows) l r ok.0)
-
-  right-any : any (holds_all (shape_in masks rows) (join_attributes (shape_in masks rows) l r)) (tables r) ≡ true
-  right-any = sym (non_empty-filter (holds_all (shape_in masks rows) (join_attributes (shape_in masks rows) l r)) (tables r)) ∙ (unfold holders in right-holds (shape_in masks rows) l r ok.0)
-
-  split-named : names_table l (get_or s place 0) ≡ split.left
-  split-named = named_left s at l r m e place d u v after before w ∙ sym q.left
-
-  taken_left : split.left ≡ true → SplitSides s masks rows at place split
-  taken_left h =
-      let own : split.own ≡ at + 1 = rw h at q.own in
-      let other : split.other ≡ m = rw h at q.other in
-      let size : split.own + split.size ≡ m = rw h at q.size in
-      let rest : split.other + split.rest ≡ e = rw h at q.rest in
-      let n : names_table l (get_or s place 0) ≡ true = split-named ∙ h in
-      let lt : place < m = ltb-true place m (sym q.left ∙ h) in
+module _ (S : Shape) (l r : Plan) (at m e place x : ℕ) (after : at < place) (before : place < e) (named : names_table l x ≡ ltb place m) where
+  lies_left : ltb place m ≡ true → LiesIn S l r at m e place x hand.Left
+  lies_left g =
       record {
-        left = l;
-        right = r;
-        middle = m;
-        end = e;
-        lefts = u;
-        rights = v;
-        mendable = ok;
-        own = l;
-        other = r;
-        chosen = right_root (shape_in masks rows) l r;
-        is_chosen = rw h (sym (side_root_right (shape_in masks rows) l r));
-        own_stands = rw (size, own) u;
-        other_stands = rw (rest, other) v;
-        own_mendable = ok.1;
-        other_mendable = ok.2;
-        own_named = n;
-        other_named = (right_root-holder (shape_in masks rows) l r ok.0).0;
-        own_place = omega arith;
-        holder = left-any;
-        key = key-holds masks rows l r split.key q.key;
-        tree = tree_for_left (shape_in masks rows) l r (get_or s place 0) n;
-        costs = rw h (omega (arith, cost_left (shape_in masks rows) l r (get_or s place 0) n));
-        other_is = rw h;
-        room = omega arith;
+        from = omega arith;
+        to = ltb-true place m g;
+        tree = rw (side_root_right S l r) (tree_for_left S l r x (named ∙ g));
+        costs = rw (side_root_right S l r) (omega (arith, cost_left S l r x (named ∙ g)));
       }
 
-  taken_right : split.left ≡ false → SplitSides s masks rows at place split
-  taken_right h =
-      let own : split.own ≡ m = rw h at q.own in
-      let other : split.other ≡ at + 1 = rw h at q.other in
-      let size : split.own + split.size ≡ e = rw h at q.size in
-      let rest : split.other + split.rest ≡ m = rw h at q.rest in
-      let n : names_table l (get_or s place 0) ≡ false = split-named ∙ h in
-      let le : m ≤ place = ltb-false place m (sym q.left ∙ h) in
+  lies_right : ltb place m ≡ false → LiesIn S l r at m e place x hand.Right
+  lies_right g =
       record {
-        left = l;
-        right = r;
-        middle = m;
-        end = e;
-        lefts = u;
-        rights = v;
-        mendable = ok;
-        own = r;
-        other = l;
-        chosen = left_root (shape_in masks rows) l r;
-        is_chosen = rw h (sym (side_root_left (shape_in masks rows) l r));
-        own_stands = rw (size, own) v;
-        other_stands = rw (rest, other) u;
-        own_mendable = ok.2;
-        other_mendable = ok.1;
-        own_named = found-names s m r e (get_or s place 0) place v w le before refl;
-        other_named = (left_root-holder (shape_in masks rows) l r ok.0).0;
-        own_place = omega arith;
-        holder = right-any;
-        key = key-holds masks rows l r split.key q.key;
-        tree = tree_for_right (shape_in masks rows) l r (get_or s place 0) n;
-        costs = rw h (cost_right (shape_in masks rows) l r (get_or s place 0) n);
-        other_is = rw h;
-        room = omega arith;
+        from = ltb-false place m g;
+        to = before;
+        tree = rw (side_root_left S l r) (tree_for_right S l r x (named ∙ g));
+        costs = rw (side_root_left S l r) (cost_right S l r x (named ∙ g));
       }
+
+  lies-in : (h : Hand) → h ≡ hand_at place m → LiesIn S l r at m e place x h
+  lies-in h q = cases (ltb place m) (λ g. let z : h ≡ hand.Left = q ∙ rw (g, hand_at) refl in rw z (lies_left g)) (λ g. let z : h ≡ hand.Right = q ∙ rw (g, hand_at) refl in rw z (lies_right g))
+
+-- a side's root is one of its tables
+root-named : (S : Shape) (h : Hand) (l r : Plan) → Mendable S (join l r) → names_table (side_plan h l r) (side_root S h l r) ≡ true
+root-named S hand.Right l r ok = rw (side_root_right S l r) (right_root-holder S l r ok.0).0
+root-named S hand.Left l r ok = rw (side_root_left S l r) (left_root-holder S l r ok.0).0
+
+-- the join at an index, the place of a root, and the side that it lies in
+pub record Taken (v : Survey) (at place : ℕ) (h : Hand) (side : Side) : Type 0 where
+  pub given : Given v.code.now v.masks.now v.rows.now v.parts
+  pub joins : JoinIn v.code.now at
+  pub mendable : Mendable (shape_in v.masks.now v.rows.now) (join joins.left joins.right)
+  pub is : SideFor v at h side
+  pub hand : h ≡ hand_at place joins.middle
+  pub after : at < place
+  pub before : place < joins.end
+  pub table : get_or v.code.now place 0 < 16
 
 pub buildable_planned : {s masks rows : List ℕ} {at place : ℕ} → Buildable s masks rows at place → Planned s at
 buildable_planned b = record { plan = b.plan; end = b.end; stands = b.stands }
 
-pub buildable-join : {s masks rows : List ℕ} {at place : ℕ} → get_or s at 0 ≡ 255 → Buildable s masks rows at place → JoinIn s at
-buildable-join {s} {at = at} k b = planned-join s at k (buildable_planned b)
+-- where the code's test for a table fails, a join stands
+mark_there : (s : List ℕ) {masks rows : List ℕ} {at place : ℕ} {r : Bool} → r ≡ ltb (get_or s at 0) 16 → r ≡ false → Buildable s masks rows at place → get_or s at 0 ≡ 255
+mark_there s {at = at} {r = r} q f b = tested-mark s at r q f (buildable_planned b)
 
-pub taken : {s masks rows : List ℕ} {at place : ℕ} {split : Split} → get_or s at 0 ≡ 255 → Distinct s → Buildable s masks rows at place
-    → ((x y : Plan) (m e : ℕ) → PlanAt s (at + 1) x m → PlanAt s m y e → SplitAt masks at place x y m e split) → SplitSides s masks rows at place split
-taken {s} {masks} {rows} {at} {place} {split} k d b f = go b.plan b.end b.stands b.mendable b.to
+pub join_there : (v : Survey) {at place : ℕ} {r : Bool} → r ≡ ltb (get_or v.code.now at 0) 16 → r ≡ false → Given v.code.now v.masks.now v.rows.now v.parts → Buildable v.code.now v.masks.now v.rows.now at place
+    → JoinAsked v at
+join_there v {at} q f g b = join_asked v g (planned-join v.code.now at (mark_there v.code.now q f b) (buildable_planned b))
+
+pub taken : (v : Survey) {at place : ℕ} {r : Bool} {h : Hand} {side : Side} → r ≡ ltb (get_or v.code.now at 0) 16 → r ≡ false → Given v.code.now v.masks.now v.rows.now v.parts → Buildable v.code.now v.masks.now v.rows.now at place
+    → SideFor v at h side → HandFor v at place h → Taken v at place h side
+taken v {at} {place} {r} {h} {side} z n g b f q = let k = mark_there v.code.now z n b in go k b.plan b.end b.stands b.mendable b.to
   where
-    go : (p : Plan) (e : ℕ) → PlanAt s at p e → Mendable (shape_in masks rows) p → place < e → SplitSides s masks rows at place split
-    go (scan t) e h ok lt = let a : get_or s at 0 ≡ t = h.1 in let c : t < 16 = h.2 in absurd (omega arith)
-    go (join l r) e h ok lt =
-        let (m, u, v) = h.2 in
-        let other : at ≡ place → ⊥ = λ z. omega (arith, b.table, ap (λ i. get_or s i 0) z) in
-        let after : at < place = omega (arith, b.from) in
-        cases split.left (λ g. taken_left s masks rows at place split l r m e u v ok d b.table after lt (f l r m e u v) g) (λ g. taken_right s masks rows at place split l r m e u v ok d b.table after lt (f l r m e u v) g)
+    go : get_or v.code.now at 0 ≡ 255 → (p : Plan) (e : ℕ) → PlanAt v.code.now at p e → Mendable (shape_in v.masks.now v.rows.now) p → place < e → Taken v at place h side
+    go k (scan t) e st ok lt = let a : get_or v.code.now at 0 ≡ t = st.1 in let c : t < 16 = st.2 in absurd (omega arith)
+    go k (join l r) e st ok lt =
+        let (m, u, w) = st.2 in
+        let other : at ≡ place → ⊥ = λ z. omega (arith, b.table, ap (λ i. get_or v.code.now i 0) z) in
+        record {
+          given = g;
+          joins = record { mark = k; left = l; right = r; middle = m; end = e; lefts = u; rights = w };
+          mendable = ok;
+          is = f;
+          hand = q l m u;
+          after = omega (arith, b.from);
+          before = lt;
+          table = b.table;
+        }
 
-module _ {s masks rows : List ℕ} {at place : ℕ} {split : Split} (x : SplitSides s masks rows at place split) (w : get_or s place 0 < 16) where
-  pub own_buildable : Buildable s masks rows split.own place
-  own_buildable = record { plan = x.own; end = split.own + split.size; stands = x.own_stands; mendable = x.own_mendable; from = x.own_place.0; to = x.own_place.1; table = w }
+module _ {v : Survey} {at place : ℕ} {h : Hand} {side : Side} (T : Taken v at place h side) where
+  abbrev s : List ℕ
+  s = v.code.now
 
-  -- the join as best-root search wants it
-  abbrev pub taken-join : get_or s at 0 ≡ 255 → JoinIn s at
-  taken-join k = record { mark = k; left = x.left; right = x.right; middle = x.middle; end = x.end; lefts = x.lefts; rights = x.rights }
+  abbrev S : Shape
+  S = shape_in v.masks.now v.rows.now
 
-  -- both sides are smaller than the join
-  pub sides_smaller : {ends sets : List ℕ} → get_or s at 0 ≡ 255 → Given s masks rows ends sets → (size_at ends split.own < size_at ends at) × (size_at ends split.other < size_at ends at)
-  sides_smaller {ends} {sets} k g =
-      omega (
-        arith,
-        x.room,
-        size_is s masks ends sets g.surveyed at (join x.left x.right) x.end (join_stands (taken-join k)),
-        size_is s masks ends sets g.surveyed split.own x.own (split.own + split.size) x.own_stands,
-        size_is s masks ends sets g.surveyed split.other x.other (split.other + split.rest) x.other_stands,
-      )
+  abbrev j : JoinIn s at
+  j = T.joins
 
-  pub taken-mendable : MendableAt s masks rows at
-  taken-mendable l r m e u v =
-      let (a, b) = plan_unique s (at + 1) l x.left m x.middle u x.lefts in
-      let (c, d) = plan_unique s m r x.right e x.end v (rw b x.rights) in
-      rw (a, c) x.mendable
+  abbrev pub own : Plan
+  own = side_plan h j.left j.right
 
-  module _ (pick : Candidate) (picks : (l r : Plan) (m e : ℕ) → PlanAt s (at + 1) l m → PlanAt s m r e → RootPicked s (shape_in masks rows) split.left l r pick) where
-    abbrev picked : RootPicked s (shape_in masks rows) split.left x.left x.right pick
-    picked = picks x.left x.right x.middle x.end x.lefts x.rights
+  abbrev pub other : Plan
+  other = side_plan (other_hand h) j.left j.right
 
-    pub picked_is : get_or s pick.place 0 ≡ x.chosen
-    picked_is = picked.root ∙ sym x.is_chosen
+  abbrev pub chosen : ℕ
+  chosen = side_root S (other_hand h) j.left j.right
 
-    picked-costs : pick.cost ≡ cost (shape_in masks rows) x.other x.chosen + added (shape_in masks rows) split.left x.chosen
-    picked-costs = picked.costs ∙ ap₂ (λ p b. cost (shape_in masks rows) p b + added (shape_in masks rows) split.left b) (sym x.other_is) (sym x.is_chosen)
+  pub lies : LiesIn S j.left j.right at j.middle j.end place (get_or s place 0) h
+  lies = lies-in S j.left j.right at j.middle j.end place (get_or s place 0) T.after T.before (named_left s at j.left j.right j.middle j.end place T.given.distinct j.lefts j.rights T.after T.before T.table) h T.hand
 
-    pub other_buildable : Distinct s → Buildable s masks rows split.other pick.place
-    other_buildable d =
-        let small : get_or s pick.place 0 < 16 = rw picked_is (named_small s split.other x.other (split.other + split.rest) x.chosen x.other_stands x.other_named) in
-        let i = named-inside s split.other x.other (split.other + split.rest) pick.place d x.other_stands picked.within small (rw picked_is x.other_named) in
-        record { plan = x.other; end = split.other + split.rest; stands = x.other_stands; mendable = x.other_mendable; from = i.0; to = i.1; table = small }
+  pub taken-mendable : MendableAt s v.masks.now v.rows.now at
+  taken-mendable l r m e u w =
+      let (a, b) = plan_unique s (at + 1) l j.left m j.middle u j.lefts in
+      let (c, d) = plan_unique s m r j.right e j.end w (rw b j.rights) in
+      rw (a, c) T.mendable
 
-    pub taken-costs : (a : ℕ) → ((p : Plan) (e : ℕ) → PlanAt s split.own p e → a ≡ cost (shape_in masks rows) p (get_or s place 0))
-        → (p : Plan) (e : ℕ) → PlanAt s at p e → get_or s at 0 ≡ 255 → a + pick.cost ≡ cost (shape_in masks rows) p (get_or s place 0)
-    taken-costs a owns p e h k =
-        let one : a ≡ cost (shape_in masks rows) x.own (get_or s place 0) = owns x.own (split.own + split.size) x.own_stands in
-        let (i, j) = plan_unique s at p (join x.left x.right) e x.end h (join_stands (taken-join k)) in
-        ap₂ (λ f g. f + g) one picked-costs ∙ sym x.costs ∙ ap (λ q. cost (shape_in masks rows) q (get_or s place 0)) (sym i)
+  pub taken_known : SideKnown v at h side
+  taken_known = record { is = T.is; join = j; given = T.given; mendable = taken-mendable }
 
-    pub pick_small : length s ≤ 31 → ((t : ℕ) → get_or rows t 0 ≤ 4096) → (a : ℕ) → ((p : Plan) (e : ℕ) → PlanAt s split.own p e → a ≡ cost (shape_in masks rows) p (get_or s place 0)) → a + pick.cost ≤ 262144
-    pick_small short few a owns =
-        omega (
-          arith,
-          owns x.own (split.own + split.size) x.own_stands,
-          cost_small s masks rows short few split.own x.own (split.own + split.size) (get_or s place 0) x.own_stands,
-          picked-costs,
-          cost_small s masks rows short few split.other x.other (split.other + split.rest) x.chosen x.other_stands,
-          added_small s masks rows short few split.left x.chosen,
-        )
+  pub across_known : (o : Hand) (across : Side) → SideFor v at o across → SideKnown v at o across
+  across_known o across f = record { is = f; join = j; given = T.given; mendable = taken-mendable }
+
+  pub own_stands : PlanAt s side.start own side.end
+  own_stands = side_there v at h side T.is j.left j.right j.middle j.end j.lefts j.rights
+
+  pub own_buildable : Buildable s v.masks.now v.rows.now side.start place
+  own_buildable =
+      let q = T.is j.left j.right j.middle j.end j.lefts j.rights in
+      record {
+        plan = own;
+        end = side.end;
+        stands = own_stands;
+        mendable = side-mendable v.masks.now v.rows.now h j.left j.right T.mendable;
+        from = rw q.start lies.from;
+        to = rw q.end lies.to;
+        table = T.table;
+      }
+
+  pub own-named : names_table own (get_or s place 0) ≡ true
+  own-named =
+      let q = T.is j.left j.right j.middle j.end j.lefts j.rights in
+      found-names s side.start own side.end (get_or s place 0) place own_stands T.table (rw q.start lies.from) (rw q.end lies.to) refl
+
+  -- the side with the root has a holder
+  pub own-holder : any (holds_all S (join_attributes S j.left j.right)) (tables own) ≡ true
+  own-holder = sym (non_empty-filter (holds_all S (join_attributes S j.left j.right)) (tables own)) ∙ (unfold holders in side-holders v.masks.now v.rows.now h j.left j.right T.mendable)
+
+  pub other_stands : (o : Hand) → o ≡ other_hand h → (across : Side) → SideFor v at o across → PlanAt s across.start other across.end
+  other_stands o z across f = rw (← z) (side_there v at o across f j.left j.right j.middle j.end j.lefts j.rights)
+
+  -- the root of the side across, the sum that the code forms, and that it fits
+  module _ (o : Hand) (z : o ≡ other_hand h) (pick : Candidate)
+      (picks : (l r : Plan) (m e : ℕ) → PlanAt s (at + 1) l m → PlanAt s m r e → RootPicked s S o l r pick) where
+    pub picked : RootPicked s S (other_hand h) j.left j.right pick
+    picked = rw z at (picks j.left j.right j.middle j.end j.lefts j.rights)
+
+    pub other_buildable : (across : Side) → SideFor v at o across → Buildable s v.masks.now v.rows.now across.start pick.place
+    other_buildable across f =
+        let st = other_stands o z across f in
+        let named : names_table other (get_or s pick.place 0) ≡ true = rw picked.root (root-named S (other_hand h) j.left j.right T.mendable) in
+        let small : get_or s pick.place 0 < 16 = named_small s across.start other across.end (get_or s pick.place 0) st named in
+        let i = named-inside s across.start other across.end pick.place T.given.distinct st picked.within small named in
+        record { plan = other; end = across.end; stands = st; mendable = side-mendable v.masks.now v.rows.now (other_hand h) j.left j.right T.mendable; from = i.0; to = i.1; table = small }
+
+    module _ (a : ℕ) (owns : (p : Plan) (e : ℕ) → PlanAt s side.start p e → a ≡ cost S p (get_or s place 0)) where
+      pub taken-costs : (p : Plan) (e : ℕ) → PlanAt s at p e → a + pick.cost ≡ cost S p (get_or s place 0)
+      taken-costs p e st =
+          let (i, k) = plan_unique s at p (join j.left j.right) e j.end st (join_stands j) in
+          ap₂ (λ f g. f + g) (owns own side.end own_stands) picked.costs ∙ sym lies.costs ∙ ap (λ q. cost S q (get_or s place 0)) (sym i)
+
+      pub pick_small : a + pick.cost ≤ 262144
+      pick_small =
+          let g = T.given in
+          omega (
+            arith,
+            owns own side.end own_stands,
+            cost_small s v.masks.now v.rows.now g.short g.few side.start own side.end (get_or s place 0) own_stands,
+            picked.costs,
+            small h chosen,
+            added_small s v.masks.now v.rows.now g.short g.few (other_hand h) chosen,
+          )
+        where
+          small : (d : Hand) (x : ℕ) → cost S (side_plan (other_hand d) j.left j.right) x ≤ 126976
+          small hand.Left x = cost_small s v.masks.now v.rows.now T.given.short T.given.few j.middle j.right j.end x j.rights
+          small hand.Right x = cost_small s v.masks.now v.rows.now T.given.short T.given.few (at + 1) j.left j.middle x j.lefts
 
 -- ---- a table's tree costs nothing
-pub table-cost : (s masks rows : List ℕ) (at root : ℕ) → (get_or s at 0 ≡ 255 → ⊥) → (p : Plan) (e : ℕ) → PlanAt s at p e → 0 ≡ cost (shape_in masks rows) p root
+pub table-cost : (s masks rows : List ℕ) (at root : ℕ) → get_or s at 0 < 16 → (p : Plan) (e : ℕ) → PlanAt s at p e → 0 ≡ cost (shape_in masks rows) p root
 table-cost s masks rows at root n (scan t) e h = refl
-table-cost s masks rows at root n (join l r) e h = absurd (n h.1)
+table-cost s masks rows at root n (join l r) e h = let a : get_or s at 0 ≡ 255 = h.1 in absurd (omega arith)

@@ -1,5 +1,5 @@
 -- What hanging in bytes promises.
-use Rattle.std.specs.Prelude.{◌≡◌, Bool, true, false, List, ◌++◌, ℕ, ◌+◌, ◌-◌, ◌<◌, ◌≤◌, length, get_or, take, drop, eqb, ltb}
+use Rattle.std.specs.Prelude.{◌≡◌, Bool, true, false, List, ◌∷◌, ◌++◌, ℕ, ◌+◌, ◌-◌, ◌<◌, ◌≤◌, length, get_or, take, drop, eqb, ltb}
 use Rattle.std.specs.Int.Bits.{bit_and}
 use Rattle.semantics.specs.Lists.{any, filter, head_of}
 use Rattle.semantics.specs.Plans.{Plan, encode, tables}
@@ -19,17 +19,6 @@ held_by masks key b = elim (ltb b 16) [ true ↦ holds_key key (get_or masks b 0
 unfoldable pub candidates : List ℕ → ℕ → List ℕ → List ℕ
 candidates masks key bs = filter (λ t. holds_key key (get_or masks t 0)) (filter (λ b. ltb b 16) bs)
 
--- the byte at k is a table that holds the key
-pub record HolderAt (masks : List ℕ) (key : ℕ) (s : List ℕ) (k : ℕ) : Type 0 where
-  pub table : get_or s k 0 < 16
-  pub holds : holds_key key (get_or masks (get_or s k 0) 0) ≡ true
-
--- j is the first such index, or the end
-pub record FirstHolder (masks : List ℕ) (key : ℕ) (s : List ℕ) (j : ℕ) : Type 0 where
-  pub early : (k : ℕ) → k < j → HolderAt masks key s k → ⊥
-  pub there : j < length s → HolderAt masks key s j
-  pub within : j ≤ length s
-
 -- the FFs right before index j begin at i
 pub record RunStart (s : List ℕ) (j i : ℕ) : Type 0 where
   pub low : i ≤ j
@@ -46,9 +35,13 @@ pub record Hangable (masks : List ℕ) (key : ℕ) (s : List ℕ) : Type 0 where
   pub plan : Plan
   pub spells : Spells masks key s plan
 
--- some bytes of the source, from an index on, put behind the first of the buffer
-abbrev pub Copied : List ℕ → ℕ → ℕ → List ℕ → List ℕ → ℕ → Type 0
-Copied source from count before out to = (length out ≡ 31) × (take (to + count) out ≡ take to before ++ take count (drop from source))
+-- a plan c is hung in those bytes by an FF before i and its bytes behind e
+pub record HangsAt (masks : List ℕ) (key : ℕ) (s : List ℕ) (i e : ℕ) : Type 0 where
+  pub from : i ≤ e
+  pub to : e ≤ length s
+  pub hung : (p c : Plan) → Spells masks key s p
+      → encode (hang_under (head_of (candidates masks key s)) c p)
+      ≡ take i s ++ (0xFF ∷ (take (e - i) (drop i s) ++ (encode c ++ drop e s)))
 
 -- what hanging asks: a plan with a holder, and room for both plans and an FF
 abbrev pub HangAsked : List ℕ → ℕ → List ℕ → List ℕ → List ℕ → Type 0

@@ -1,5 +1,5 @@
 -- What tree building for a root and best-root search promise.
-use Rattle.std.specs.Prelude.{◌≡◌, ◌⊎◌, Bool, true, false, List, map, ℕ, ◌+◌, ◌*◌, ◌-◌, ◌/◌, ◌%◌, ◌<◌, ◌≤◌, length, get_or, ltb}
+use Rattle.std.specs.Prelude.{◌≡◌, true, false, List, map, ℕ, ◌+◌, ◌<◌, ◌≤◌, length, get_or, ltb, Option, None, Some, IfSome}
 use Rattle.semantics.specs.Lists.{non_empty, from}
 use Rattle.semantics.specs.Plans.{Plan, join}
 use Rattle.semantics.specs.Shapes.{Shape, join_attributes}
@@ -8,61 +8,56 @@ use Rattle.theory.specs.Selections.{Mendable}
 use Rattle.mending.specs.Places.{PlanAt}
 use Rattle.mending.specs.Parts.{shape_in, MaskWords, Surveyed, JoinIn, side_plan, slot_of}
 use Rattle.mending.specs.Hanging.{candidates}
+use Rattle.mending.specs.declared.parts.Hand.{Hand}
+use Rattle.mending.specs.declared.parts.Hand.TheVariants as hand
+use Rattle.mending.specs.declared.parts.Part.{Part}
+use Rattle.mending.specs.declared.parts.Survey.{Survey}
 use Rattle.mending.specs.declared.rooting.Candidate.{Candidate}
 
--- no table yet: dearer than any
-abbrev pub unpicked : Candidate
-unpicked = record { place = 0; cost = 1048576 }
-
-unfoldable pub better_of : Candidate → ℕ → ℕ → Candidate
-better_of pick place c = elim (ltb c pick.cost) [ true ↦ record { place = place; cost = c } | false ↦ pick ]
-
--- a pick as one word that is not 0, and back
-abbrev pub packed : Candidate → ℕ
-packed pick = 32 * pick.cost + pick.place + 1
-
-abbrev pub unpacked : ℕ → Candidate
-unpacked word = record { place = (word - 1) % 32; cost = (word - 1) / 32 }
+-- the cheaper one, where there is one so far; of equals the first
+abbrev pub better_of : Option Candidate → Candidate → Candidate
+better_of None next = next
+better_of (Some first) next = elim (ltb next.cost first.cost) [ true ↦ next | false ↦ first ]
 
 -- the row count that the table t adds at a join, as the root of its right or its left side
-abbrev pub rows_added : List ℕ → Bool → ℕ → ℕ
-rows_added rows true t = 0
-rows_added rows false t = get_or rows t 0
+abbrev pub rows_added : List ℕ → Hand → ℕ → ℕ
+rows_added rows hand.Right t = 0
+rows_added rows hand.Left t = get_or rows t 0
 
-abbrev pub added : Shape → Bool → ℕ → ℕ
-added S true b = 0
-added S false b = S.rows b
+abbrev pub added : Shape → Hand → ℕ → ℕ
+added S hand.Right b = 0
+added S hand.Left b = S.rows b
 
 -- what a table costs as the root of a side, and the side's root: `right_root` or `left_root`
-abbrev pub side_cost : Shape → Bool → Plan → ℕ → ℕ
-side_cost S right p b = cost S p b + added S right b
+abbrev pub side_cost : Shape → Hand → Plan → ℕ → ℕ
+side_cost S h p b = cost S p b + added S h b
 
-unfoldable pub side_root : Shape → Bool → Plan → Plan → ℕ
-side_root S right l r = cheapest (side_cost S right (side_plan right l r)) (holders S (join_attributes S l r) (side_plan right l r))
+unfoldable pub side_root : Shape → Hand → Plan → Plan → ℕ
+side_root S h l r = cheapest (side_cost S h (side_plan h l r)) (holders S (join_attributes S l r) (side_plan h l r))
 
 -- the pick is the byte of that root in s, with what it costs
-pub record RootPicked (s : List ℕ) (S : Shape) (right : Bool) (l r : Plan) (pick : Candidate) : Type 0 where
+pub record RootPicked (s : List ℕ) (S : Shape) (h : Hand) (l r : Plan) (pick : Candidate) : Type 0 where
   pub within : pick.place < length s
-  pub root : get_or s pick.place 0 ≡ side_root S right l r
-  pub costs : pick.cost ≡ side_cost S right (side_plan right l r) (side_root S right l r)
+  pub root : get_or s pick.place 0 ≡ side_root S h l r
+  pub costs : pick.cost ≡ side_cost S h (side_plan h l r) (side_root S h l r)
 
--- each word of the memory is 0, or the root of its side is packed in it
-pub record RootsRemembered (s masks rows best : List ℕ) : Type 0 where
+-- what the memory holds of a side, where it holds something, is the side's root
+pub record RootsRemembered (s masks rows : List ℕ) (best : List (Option Candidate)) : Type 0 where
   pub slots : length best ≡ 64
-  pub roots : (at : ℕ) (side : Bool) (l r : Plan) (m e : ℕ) → PlanAt s (at + 1) l m → PlanAt s m r e
-      → (get_or best (slot_of side at) 0 ≡ 0) ⊎ RootPicked s (shape_in masks rows) side l r (unpacked (get_or best (slot_of side at) 0))
+  pub roots : (at : ℕ) (h : Hand) (l r : Plan) (m e : ℕ) → PlanAt s (at + 1) l m → PlanAt s m r e
+      → IfSome (get_or best (slot_of h at) None) (RootPicked s (shape_in masks rows) h l r)
 
 -- no table is named by two bytes
 abbrev pub Distinct : List ℕ → Type 0
 Distinct s = (i j : ℕ) → i < length s → j < length s → get_or s i 0 < 16 → get_or s i 0 ≡ get_or s j 0 → i ≡ j
 
 -- what the functions rest on: answers 4, 7 and 8 leave so much, and the plan is surveyed
-pub record Given (s masks rows ends sets : List ℕ) : Type 0 where
+pub record Given (s masks rows : List ℕ) (parts : List Part) : Type 0 where
   pub short : length s ≤ 31
   pub words : MaskWords masks
   pub few : (t : ℕ) → get_or rows t 0 ≤ 4096
   pub distinct : Distinct s
-  pub surveyed : Surveyed s masks ends sets
+  pub surveyed : Surveyed s masks parts
 
 -- the plan at an index can be mended, and the byte at the place is one of its tables
 pub record Buildable (s masks rows : List ℕ) (at place : ℕ) : Type 0 where
@@ -79,38 +74,46 @@ abbrev pub MendableAt : List ℕ → List ℕ → List ℕ → ℕ → Type 0
 MendableAt s masks rows at = (l r : Plan) (m e : ℕ) → PlanAt s (at + 1) l m → PlanAt s m r e → Mendable (shape_in masks rows) (join l r)
 
 -- what tree building for a root asks, and what it promises: the memory stays right, and r is the penalty
-abbrev pub TreeAsked : List ℕ → List ℕ → List ℕ → List ℕ → List ℕ → List ℕ → ℕ → ℕ → Type 0
-TreeAsked s masks rows ends sets best at place =
-    Given s masks rows ends sets × RootsRemembered s masks rows best × Buildable s masks rows at place
+abbrev pub TreeAsked : Survey → List (Option Candidate) → ℕ → ℕ → Type 0
+TreeAsked v best at place =
+    Given v.code.now v.masks.now v.rows.now v.parts × RootsRemembered v.code.now v.masks.now v.rows.now best
+    × Buildable v.code.now v.masks.now v.rows.now at place
 
-abbrev pub TreeBuilt : List ℕ → List ℕ → List ℕ → List ℕ → ℕ → ℕ → ℕ → Type 0
-TreeBuilt s masks rows best at place r =
-    RootsRemembered s masks rows best × ((p : Plan) (e : ℕ) → PlanAt s at p e → r ≡ cost (shape_in masks rows) p (get_or s place 0))
+abbrev pub TreeBuilt : Survey → List (Option Candidate) → ℕ → ℕ → ℕ → Type 0
+TreeBuilt v best at place r =
+    RootsRemembered v.code.now v.masks.now v.rows.now best
+    × ((p : Plan) (e : ℕ) → PlanAt v.code.now at p e → r ≡ cost (shape_in v.masks.now v.rows.now) p (get_or v.code.now place 0))
 
 -- what best-root search asks, and what it promises: the memory stays right, and the pick is the side's root with its cost
-abbrev pub RootAsked : List ℕ → List ℕ → List ℕ → List ℕ → List ℕ → List ℕ → ℕ → Type 0
-RootAsked s masks rows ends sets best at =
-    Given s masks rows ends sets × RootsRemembered s masks rows best × JoinIn s at × MendableAt s masks rows at
+abbrev pub RootAsked : Survey → List (Option Candidate) → ℕ → Type 0
+RootAsked v best at =
+    Given v.code.now v.masks.now v.rows.now v.parts × RootsRemembered v.code.now v.masks.now v.rows.now best
+    × JoinIn v.code.now at × MendableAt v.code.now v.masks.now v.rows.now at
 
-abbrev pub RootFound : List ℕ → List ℕ → List ℕ → List ℕ → ℕ → Bool → Candidate → Type 0
-RootFound s masks rows best at right pick =
-    RootsRemembered s masks rows best
-    × ((x y : Plan) (m e : ℕ) → PlanAt s (at + 1) x m → PlanAt s m y e → RootPicked s (shape_in masks rows) right x y pick)
+abbrev pub RootFound : Survey → List (Option Candidate) → ℕ → Hand → Candidate → Type 0
+RootFound v best at h pick =
+    RootsRemembered v.code.now v.masks.now v.rows.now best
+    × ((x y : Plan) (m e : ℕ) → PlanAt v.code.now (at + 1) x m → PlanAt v.code.now m y e
+    → RootPicked v.code.now (shape_in v.masks.now v.rows.now) h x y pick)
 
 -- n bytes from an index
 abbrev pub bytes_from : List ℕ → ℕ → ℕ → List ℕ
 bytes_from s at n = map (λ j. get_or s j 0) (from at n)
 
--- the pick among some tables by what they cost: the byte of the cheapest
-pub record Picked (f : ℕ → ℕ) (s xs : List ℕ) (pick : Candidate) : Type 0 where
+-- the pick among some tables by what they cost: the byte of the cheapest, and what that costs
+pub record PickedAt (f : ℕ → ℕ) (s xs : List ℕ) (pick : Candidate) : Type 0 where
+  pub some : non_empty xs ≡ true
   pub within : pick.place < length s
-  pub bounded : pick.cost ≤ 1048576
-  pub none : non_empty xs ≡ false → pick.cost ≡ 1048576
-  pub root : non_empty xs ≡ true → get_or s pick.place 0 ≡ cheapest f xs
-  pub costs : non_empty xs ≡ true → pick.cost ≡ f (cheapest f xs)
+  pub root : get_or s pick.place 0 ≡ cheapest f xs
+  pub costs : pick.cost ≡ f (cheapest f xs)
+
+-- the same, where there is a table
+abbrev pub Picked : (ℕ → ℕ) → List ℕ → List ℕ → Option Candidate → Type 0
+Picked f s xs None = non_empty xs ≡ false
+Picked f s xs (Some pick) = PickedAt f s xs pick
 
 -- the search among the first n bytes of a side of the join at an index
-abbrev pub SideSearched : List ℕ → List ℕ → List ℕ → ℕ → Bool → ℕ → ℕ → ℕ → Candidate → Type 0
-SideSearched s masks rows at right start key n pick =
+abbrev pub SideSearched : List ℕ → List ℕ → List ℕ → ℕ → Hand → ℕ → ℕ → ℕ → Option Candidate → Type 0
+SideSearched s masks rows at h start key n pick =
     (x y : Plan) (m e : ℕ) → PlanAt s (at + 1) x m → PlanAt s m y e
-    → Picked (side_cost (shape_in masks rows) right (side_plan right x y)) s (candidates masks key (bytes_from s start n)) pick
+    → Picked (side_cost (shape_in masks rows) h (side_plan h x y)) s (candidates masks key (bytes_from s start n)) pick

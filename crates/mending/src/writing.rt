@@ -2,53 +2,31 @@
 ghost use Rattle.mending.specs.Writing.{WriteAsked, TreeWritten};
 
 use crate::hanging::hang;
-use crate::parts::split_for;
-use crate::rooting::best_root;
+use crate::parts::{Survey, is_table};
+use crate::rooting::Memory;
 
-// The bytes of the tree, of the plan at an index, for this root.
-pub(crate) fn write_tree(
-    code: &[u8],
-    masks: &[u32; 16],
-    rows: &[usize; 16],
-    ends: &[usize; 31],
-    sets: &[u32; 31],
-    at: usize,
-    place: usize,
-    best: &mut [usize; 64],
-    out: &mut [u8; 31],
-)
-    requires { WriteAsked code.now masks.now rows.now ends.now sets.now best.old out.old at place }
-    ensures { TreeWritten code.now masks.now rows.now best.new
-        out.new at place }
-{
-    let b = code[at];
-    match b {
-        0..=15 => {
+impl Survey<'_> {
+    // The bytes of the tree, of the plan at an index, for this root.
+    pub(crate) fn write_tree(&self, at: usize, place: usize, best: &mut Memory, out: &mut [u8; 31])
+        requires { WriteAsked self.now best.old out.old at place }
+        ensures { TreeWritten self.now best.new out.new at place }
+    {
+        let b = self.code[at];
+        if is_table(b) {
             out[0] = b;
+            return;
         }
-        255 => {
-            let split = split_for(ends, sets, at, place);
-            let n = split.size;
-            let m = split.rest;
-            let mut tree = [0u8; 31];
-            let mut hung = [0u8; 31];
-            write_tree(
-                code, masks, rows, ends, sets, split.own, place, &mut *best, &mut tree,
-            );
-            let other = best_root(code, masks, rows, ends, sets, at, split.left, &mut *best);
-            write_tree(
-                code,
-                masks,
-                rows,
-                ends,
-                sets,
-                split.other,
-                other.place,
-                best,
-                &mut hung,
-            );
-            hang(&tree[..n], &hung[..m], split.key, masks, out);
-        }
-        _ => {}
+        let near = self.hand_of(at, place);
+        let far = near.other();
+        let own = self.side(at, near);
+        let other = self.side(at, far);
+        let mut tree = [0u8; 31];
+        let mut hung = [0u8; 31];
+        self.write_tree(own.start, place, &mut *best, &mut tree);
+        let root = self.best_root(at, far, &mut *best);
+        self.write_tree(other.start, root.place, best, &mut hung);
+        let n = own.end - own.start;
+        let m = other.end - other.start;
+        hang(&tree[..n], &hung[..m], own.key, self.masks, out);
     }
 }

@@ -1,4 +1,3 @@
-pub mod Bundles
 pub mod Filling
 pub mod Values
 pub mod Ranks

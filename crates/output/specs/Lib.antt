@@ -2,4 +2,5 @@ pub mod OutputLists
 pub mod OutputColumns
 pub mod CopyColumns
 pub mod Placing
+pub mod Storing
 pub mod Values

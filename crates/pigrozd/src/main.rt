@@ -2,13 +2,11 @@
 #![tactic(auto)]
 
 fn main() {
-    let mut file = [0u8; 65537];
-    let n = io::read_full(0, &mut file);
-    if 65536 < n {
-        report::refuse(13, 65536);
+    let mut bytes = [0u8; 65537];
+    let Some(file) = report::read_file(&mut bytes) else {
         return;
-    }
+    };
     let mut scratch = [0u32; 16384];
     let mut output = [0u32; 16384];
-    report::report(&file[..n], &mut scratch, &mut output);
+    report::report(file, &mut scratch, &mut output);
 }

@@ -19,14 +19,14 @@ use Rattle.words.specs.Arrays.{padded}
 use Rattle.words.specs.Masks.{Masked}
 use Rattle.tables.specs.declared.Catalog.{Catalog}
 use Rattle.tables.specs.Catalogs.{catalog_of}
-use Rattle.mending.specs.declared.lacking.Found.{Found}
-use Rattle.mending.specs.declared.lacking.Found.TheVariants as found
+use Rattle.std.specs.Prelude.{Result, Ok, Err}
+use Rattle.refusals.specs.declared.Refusal.{Refusal}
+use Rattle.refusals.specs.Refusals.{refused_at, reason_of, number_of, refusal_of}
 use Rattle.mending.specs.Places.{PlanAt, Planned}
-use Rattle.mending.specs.Lacking.{found_of}
-use Rattle.mending.proofs.Lacks.{found_none, found_at}
+use Rattle.refusals.proofs.Numbers.{refused_none, refused_some}
 use Rattle.tables.proofs.Catalogs.{mask_at, rows_at}
 use Rattle.theory.proofs.Lists.{each_at}
-use Rattle.plans.specs.declared.admission.Check.TheVariants as check
+use Rattle.plans.specs.declared.admission.Followed.TheVariants as followed
 use Rattle.plans.specs.Judging.{well_behaved}
 use Rattle.plans.specs.Admissions.{Tabled, Catalogued, asks_for, sent_check, check_of, Named, Formable, asked, sent}
 use Rattle.mending.proofs.Places.{spelled-stands}
@@ -92,7 +92,7 @@ module _ (c : Catalog) (code : List ℕ) (q : Bool) (asks : q ≡ asks_for c.cou
   asks_is : (ts : List Table) → Tabled c ts → q ≡ asks_for_plan ts code
   asks_is ts h = asks ∙ ap (λ n. asks_for n code) (count_is c ts h) ∙ asks_for_lem ts code
 
-  pub is-asked : q ≡ true → (ts : List Table) → Tabled c ts → check.Formed ≡ check_of ts code
+  pub is-asked : q ≡ true → (ts : List Table) → Tabled c ts → Ok followed.Formed ≡ check_of ts code
   unfolding check_of
   is-asked e ts h = sym (rw (sym (asks_is ts h) ∙ e, check_of) refl)
 
@@ -100,38 +100,43 @@ module _ (c : Catalog) (code : List ℕ) (q : Bool) (asks : q ≡ asks_for c.cou
   is-sent e ts h = sym (asks_is ts h) ∙ e
 
 -- ---- answers 7 and 8
-module _ (c : Catalog) (code : List ℕ) (sent : (ts : List Table) → Tabled c ts → asks_for_plan ts code ≡ false) (f : Found) (seven : f ≡ found_of (misplaced 1 0 code)) where
-  pub answer_7 : (i : ℕ) → f ≡ found.At i → (ts : List Table) → Tabled c ts → check.Refused 7 i ≡ check_of ts code
+module _ (c : Catalog) (code : List ℕ) (sent : (ts : List Table) → Tabled c ts → asks_for_plan ts code ≡ false)
+    (f : Result (Unit {0}) Refusal) (seven : f ≡ refused_at 7 (misplaced 1 0 code)) where
+  pub answer_7 : (r : Refusal) → f ≡ Err r → (ts : List Table) → Tabled c ts → Err r ≡ check_of ts code
   unfolding sent_check
-  answer_7 i e ts h = sym (sent_check_lem ts code (sent ts h) ∙ rw (found_at (misplaced 1 0 code) i (sym seven ∙ e), sent_check) refl)
+  answer_7 r e ts h =
+      let (o, q) = refused_some 7 (misplaced 1 0 code) r (sym e ∙ seven) in
+      ap (λ x. Err x) q ∙ sym (sent_check_lem ts code (sent ts h) ∙ rw (o, sent_check) refl)
 
-  module _ (spells : f ≡ found.Nothing) where
+  module _ (spells : f ≡ Ok tt) where
     none_7 : misplaced 1 0 code ≡ none
-    none_7 = found_none (misplaced 1 0 code) (sym seven ∙ spells)
+    none_7 = refused_none 7 (misplaced 1 0 code) (sym spells ∙ seven)
 
     pub spelled-plan : Planned code 0
     spelled-plan = record { plan = plan_of code; end = length code; stands = spelled-stands code none_7 }
 
-    module _ (g : Found) (eight : g ≡ found_of (misnamed c.count [] 0 code)) where
-      eight_of : (ts : List Table) → Tabled c ts → g ≡ found_of (misnamed (length ts) [] 0 code)
-      eight_of ts h = eight ∙ ap (λ n. found_of (misnamed n [] 0 code)) (count_is c ts h)
+    module _ (g : Result (Unit {0}) Refusal) (eight : g ≡ refused_at 8 (misnamed c.count [] 0 code)) where
+      eight_of : (ts : List Table) → Tabled c ts → g ≡ refused_at 8 (misnamed (length ts) [] 0 code)
+      eight_of ts h = eight ∙ ap (λ n. refused_at 8 (misnamed n [] 0 code)) (count_is c ts h)
 
-      pub answer_8 : (i : ℕ) → g ≡ found.At i → (ts : List Table) → Tabled c ts → check.Refused 8 i ≡ check_of ts code
+      pub answer_8 : (r : Refusal) → g ≡ Err r → (ts : List Table) → Tabled c ts → Err r ≡ check_of ts code
       unfolding sent_check
-      answer_8 i e ts h = sym (sent_check_lem ts code (sent ts h) ∙ rw (none_7, found_at (misnamed (length ts) [] 0 code) i (sym (eight_of ts h) ∙ e), sent_check) refl)
+      answer_8 r e ts h =
+          let (o, q) = refused_some 8 (misnamed (length ts) [] 0 code) r (sym e ∙ eight_of ts h) in
+          ap (λ x. Err x) q ∙ sym (sent_check_lem ts code (sent ts h) ∙ rw (none_7, o, sent_check) refl)
 
-      module _ (names : g ≡ found.Nothing) (b : Bool) (judged : (S : Shape) → Masked c.masks S → (p : Plan) → PlanAt code 0 p (length code) → b ≡ well_behaved S p) where
+      module _ (names : g ≡ Ok tt) (b : Bool) (judged : (S : Shape) → Masked c.masks S → (p : Plan) → PlanAt code 0 p (length code) → b ≡ well_behaved S p) where
         none_8 : (ts : List Table) → Tabled c ts → misnamed (length ts) [] 0 code ≡ none
-        none_8 ts h = found_none (misnamed (length ts) [] 0 code) (sym (eight_of ts h) ∙ names)
+        none_8 ts h = refused_none 8 (misnamed (length ts) [] 0 code) (sym names ∙ eight_of ts h)
 
         tested : (ts : List Table) → Tabled c ts → b ≡ well_behaved (shape_of ts) (plan_of code)
         tested ts h = judged (shape_of ts) (rw (masks_are c ts h) (masked ts h.masks)) (plan_of code) (spelled-stands code none_7)
 
-        pub is-behaved : b ≡ true → (ts : List Table) → Tabled c ts → check.AsSent ≡ check_of ts code
+        pub is-behaved : b ≡ true → (ts : List Table) → Tabled c ts → Ok followed.AsSent ≡ check_of ts code
         unfolding sent_check
         is-behaved e ts h = sym (sent_check_lem ts code (sent ts h) ∙ rw (none_7, none_8 ts h, sym (tested ts h) ∙ e, sent_check) refl)
 
-        pub is_not-behaved : b ≡ false → (ts : List Table) → Tabled c ts → check.Formed ≡ check_of ts code
+        pub is_not-behaved : b ≡ false → (ts : List Table) → Tabled c ts → Ok followed.Formed ≡ check_of ts code
         unfolding sent_check
         is_not-behaved e ts h = sym (sent_check_lem ts code (sent ts h) ∙ rw (none_7, none_8 ts h, sym (tested ts h) ∙ e, sent_check) refl)
 
@@ -141,9 +146,9 @@ pub record Passed (ts : List Table) (code : List ℕ) (b : Bool) : Type 0 where
   pub tested : well_behaved (shape_of ts) (plan_of code) ≡ b
 
 sent-cases : {P : Type 0} (ts : List Table) (code : List ℕ)
-    → ((n i : ℕ) → sent_check ts code ≡ check.Refused n i → sent_verdict ts code ≡ refused n i → P)
-    → (sent_check ts code ≡ check.AsSent → Passed ts code true → P)
-    → (sent_check ts code ≡ check.Formed → Passed ts code false → P)
+    → ((n i : ℕ) → number_of (reason_of n) ≡ n → sent_check ts code ≡ Err (refusal_of n i) → sent_verdict ts code ≡ refused n i → P)
+    → (sent_check ts code ≡ Ok followed.AsSent → Passed ts code true → P)
+    → (sent_check ts code ≡ Ok followed.Formed → Passed ts code false → P)
     → P
 unfolding sent_check sent_verdict
 sent-cases ts code a b d =
@@ -152,39 +157,41 @@ sent-cases ts code a b d =
     (λ y. cases (well_behaved (shape_of ts) (plan_of code))
     (λ z. b (rw (x, y, z, sent_check) refl) (record { named = record { spelled = x; named = y }; tested = z }))
     (λ z. d (rw (x, y, z, sent_check) refl) (record { named = record { spelled = x; named = y }; tested = z })))
-    (λ i y. a 8 i (rw (x, y, sent_check) refl) (rw (x, y, sent_verdict) refl)))
-    (λ i x. a 7 i (rw (x, sent_check) refl) (rw (x, sent_verdict) refl))
+    (λ i y. a 8 i refl (rw (x, y, sent_check) refl) (rw (x, y, sent_verdict) refl)))
+    (λ i x. a 7 i refl (rw (x, sent_check) refl) (rw (x, sent_verdict) refl))
 
 check-cases : {P : Type 0} (ts : List Table) (code : List ℕ)
-    → ((n i : ℕ) → check_of ts code ≡ check.Refused n i → plan_verdict ts code ≡ refused n i → P)
-    → (check_of ts code ≡ check.AsSent → Passed ts code true → P)
-    → (check_of ts code ≡ check.Formed → Formable code ts → P)
+    → ((n i : ℕ) → number_of (reason_of n) ≡ n → check_of ts code ≡ Err (refusal_of n i) → plan_verdict ts code ≡ refused n i → P)
+    → (check_of ts code ≡ Ok followed.AsSent → Passed ts code true → P)
+    → (check_of ts code ≡ Ok followed.Formed → Formable code ts → P)
     → P
 unfolding check_of
 check-cases ts code a b d =
     cases (asks_for_plan ts code) (λ e. d (rw (e, check_of) refl) (asked e))
     (λ e. sent-cases ts code
-    (λ n i x v. a n i (sent_check_lem ts code e ∙ x) (plan-sent ts code e ∙ v))
+    (λ n i k x v. a n i k (sent_check_lem ts code e ∙ x) (plan-sent ts code e ∙ v))
     (λ x p. b (sent_check_lem ts code e ∙ x) p)
     (λ x p. d (sent_check_lem ts code e ∙ x) (sent p.named)))
 
-pub check-refused : (ts : List Table) (code : List ℕ) (n d : ℕ) → check.Refused n d ≡ check_of ts code → plan_verdict ts code ≡ refused n d
-check-refused ts code n d e =
+pub check-refused : (ts : List Table) (code : List ℕ) (r : Refusal) → Err r ≡ check_of ts code → plan_verdict ts code ≡ refused (number_of r.reason) r.detail
+check-refused ts code r e =
     check-cases ts code
-    (λ m i q v. let y : check.Refused n d ≡ check.Refused m i = e ∙ q in let z : refused m i ≡ refused n d = cc in v ∙ z)
-    (λ q p. let y : check.Refused n d ≡ check.AsSent = e ∙ q in let z : ◌≡◌ {A = ℕ} 0 1 = cc in absurd (omega arith))
-    (λ q p. let y : check.Refused n d ≡ check.Formed = e ∙ q in let z : ◌≡◌ {A = ℕ} 0 1 = cc in absurd (omega arith))
+    (λ m i k q v. let y : Err r ≡ Err (refusal_of m i) = e ∙ q in
+    let z : r ≡ refusal_of m i = cc in
+    v ∙ rw z (ap (λ n. refused n i) (sym k)))
+    (λ q p. let y : Err r ≡ Ok followed.AsSent = e ∙ q in let z : ◌≡◌ {A = ℕ} 0 1 = cc in absurd (omega arith))
+    (λ q p. let y : Err r ≡ Ok followed.Formed = e ∙ q in let z : ◌≡◌ {A = ℕ} 0 1 = cc in absurd (omega arith))
 
-pub check-as-sent : (ts : List Table) (code : List ℕ) → check.AsSent ≡ check_of ts code → Passed ts code true
+pub check-as-sent : (ts : List Table) (code : List ℕ) → Ok followed.AsSent ≡ check_of ts code → Passed ts code true
 check-as-sent ts code e =
     check-cases ts code
-    (λ m i q v. let y : check.AsSent ≡ check.Refused m i = e ∙ q in let z : ◌≡◌ {A = ℕ} 0 1 = cc in absurd (omega arith))
+    (λ m i k q v. let y : Ok followed.AsSent ≡ Err (refusal_of m i) = e ∙ q in let z : ◌≡◌ {A = ℕ} 0 1 = cc in absurd (omega arith))
     (λ q p. p)
-    (λ q p. let y : check.AsSent ≡ check.Formed = e ∙ q in let z : ◌≡◌ {A = ℕ} 0 1 = cc in absurd (omega arith))
+    (λ q p. let y : Ok followed.AsSent ≡ Ok followed.Formed = e ∙ q in let z : ◌≡◌ {A = ℕ} 0 1 = cc in absurd (omega arith))
 
-pub check_formed : (ts : List Table) (code : List ℕ) → check.Formed ≡ check_of ts code → Formable code ts
+pub check_formed : (ts : List Table) (code : List ℕ) → Ok followed.Formed ≡ check_of ts code → Formable code ts
 check_formed ts code e =
     check-cases ts code
-    (λ m i q v. let y : check.Formed ≡ check.Refused m i = e ∙ q in let z : ◌≡◌ {A = ℕ} 0 1 = cc in absurd (omega arith))
-    (λ q p. let y : check.Formed ≡ check.AsSent = e ∙ q in let z : ◌≡◌ {A = ℕ} 0 1 = cc in absurd (omega arith))
+    (λ m i k q v. let y : Ok followed.Formed ≡ Err (refusal_of m i) = e ∙ q in let z : ◌≡◌ {A = ℕ} 0 1 = cc in absurd (omega arith))
+    (λ q p. let y : Ok followed.Formed ≡ Ok followed.AsSent = e ∙ q in let z : ◌≡◌ {A = ℕ} 0 1 = cc in absurd (omega arith))
     (λ q p. p)

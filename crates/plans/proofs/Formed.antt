@@ -6,7 +6,7 @@ use native.Mathlib.Omega.{arith}
 use lib.ListN.{length, take}
 use Rattle.semantics.specs.Files.{Table}
 use Rattle.semantics.specs.Plans.{plan_of}
-use Rattle.semantics.specs.Shapes.{Shape, shape_of}
+use Rattle.semantics.specs.Shapes.{shape_of}
 use Rattle.semantics.specs.Elimination.{eliminate, plan_under}
 use Rattle.semantics.specs.Outcome.{refused, admitted, found_verdict, plan_verdict, scratch_verdict}
 use Rattle.theory.specs.Rules.{WithinRules}
@@ -16,15 +16,14 @@ use Rattle.theory.proofs.FoundPlans.{elimination-cases}
 use Rattle.theory.proofs.Rules.{asks-plan, plan-asked, plan-found, plan-within}
 use Rattle.words.specs.Masks.{Masked}
 use Rattle.elimination.specs.Steps.{Shaped}
-use Rattle.elimination.specs.Searches.{SearchIs}
-use Rattle.elimination.specs.declared.Search.{Search}
-use Rattle.elimination.specs.declared.Search.TheVariants as search
+use Rattle.elimination.specs.Searches.{SearchIs, Searched}
+use Rattle.std.specs.Prelude.{Result, Ok, Err}
+use Rattle.refusals.specs.declared.Refusal.{Refusal}
+use Rattle.refusals.specs.Refusals.{number_of}
 use Rattle.tables.specs.declared.Catalog.{Catalog}
-use Rattle.plans.specs.declared.admission.Verdict.TheVariants as decision
-use Rattle.plans.specs.declared.forming.Formed.{Formed}
-use Rattle.plans.specs.declared.forming.Formed.TheVariants as formed
-use Rattle.scheduling.specs.Schedules.{Schedule, no_schedule}
-use Rattle.plans.specs.Admissions.{Tabled, Named, NamedFor, Formable, asked, sent, Follows, Decided, decided_by, decided_following, decided_plan}
+use Rattle.scheduling.specs.declared.Schedule.{Schedule}
+use Rattle.scheduling.specs.Schedules.{no_schedule}
+use Rattle.plans.specs.Admissions.{not-admitted, Tabled, Named, NamedFor, Formable, asked, sent, Follows, Decided, decided_by, decided_following, decided_plan}
 use Rattle.plans.specs.Forming.{FormableFor, PlanlessFor, PlanIn, FormedAs}
 use Rattle.plans.proofs.Admitting.{masked, masks_are, count_is}
 use Rattle.plans.proofs.Scratch.{refused_admission}
@@ -34,34 +33,21 @@ module _ (c : Catalog) (ts : List Table) (h : Tabled c ts) where
   pub table-masks : Masked c.masks (shape_of ts)
   table-masks = rw (masks_are c ts h) (masked ts h.masks)
 
-  module _ (l : 0 < length ts) (before out : List ℕ) (r : Search) (is : (S : Shape) → Masked c.masks S → SearchIs (eliminate S c.count) r before out) where
-    found_is : SearchIs (eliminate (shape_of ts) (length ts)) r before out
-    found_is = rw (count_is c ts h) at (is (shape_of ts) table-masks)
-
-    none-sent : plan_verdict ts [] ≡ found_verdict ts
-    none-sent = plan-found ts [] (plan-asked ts [] (record { present = l; empty = refl }))
-
-    -- answer 14
-    pub found-refused : (d : ℕ) → r ≡ search.Stuck d → plan_verdict ts [] ≡ refused 14 d
-    unfolding found_verdict
-    found-refused d e =
-        none-sent
-        ∙ elimination-cases (eliminate (shape_of ts) (length ts))
-        (λ z hs i. let x = subst (λ y. SearchIs y r before out) i found_is in let q : search.Stuck d ≡ search.Plan x.0 = sym e ∙ x.1 in let o : ◌≡◌ {A = ℕ} 0 1 = cc in absurd (omega arith))
-        (λ k i. let x = subst (λ y. SearchIs y r before out) i found_is in let q : search.Stuck k ≡ search.Stuck d = sym x.0 ∙ e in let o : k ≡ d = cc in rw (i, found_verdict) (ap (refused 14) o))
-
-    -- or the plan that is found
-    pub found_formed : (n : ℕ) → r ≡ search.Plan n → PlanIn ts [] n out
-    unfolding found_verdict
-    found_formed n e =
-        elimination-cases (eliminate (shape_of ts) (length ts))
-        (λ z hs i.
-        let (m, a, fits, size, bytes) = subst (λ y. SearchIs y r before out) i found_is in
-        let q : search.Plan m ≡ search.Plan n = sym a ∙ e in
-        let o : m ≡ n = cc in
-        let v : found_verdict ts ≡ admitted ts (plan_under hs z) = rw (i, found_verdict) in
-        subst (λ k. PlanIn ts [] k out) o (record { plan = plan_under hs z; admits = none-sent ∙ v; fits = fits; size = size; bytes = bytes }))
-        (λ d i. let x = subst (λ y. SearchIs y r before out) i found_is in let q : search.Plan n ≡ search.Stuck d = sym e ∙ x.0 in let o : ◌≡◌ {A = ℕ} 0 1 = cc in absurd (omega arith))
+  -- answer 14, or the plan that is found
+  pub found_formed : 0 < length ts → (before out : List ℕ) (r : Result ℕ Refusal) → Searched c.masks c.count before out r → FormedAs ts [] r out
+  unfolding found_verdict
+  found_formed l before out r is =
+      let found : SearchIs (eliminate (shape_of ts) (length ts)) r before out = rw (count_is c ts h) at (is (shape_of ts) table-masks) in
+      let none-sent : plan_verdict ts [] ≡ found_verdict ts = plan-found ts [] (plan-asked ts [] (record { present = l; empty = refl })) in
+      elimination-cases (eliminate (shape_of ts) (length ts))
+      (λ z hs i.
+      let (m, a, fits, size, bytes) = subst (λ y. SearchIs y r before out) i found in
+      let v : found_verdict ts ≡ admitted ts (plan_under hs z) = rw (i, found_verdict) in
+      rw a (record { plan = plan_under hs z; admits = none-sent ∙ v; fits = fits; size = size; bytes = bytes }))
+      (λ d i.
+      let x = subst (λ y. SearchIs y r before out) i found in
+      let v : found_verdict ts ≡ refused 14 d = rw (i, found_verdict) in
+      rw x.0 (none-sent ∙ v))
 
 -- what the search rests on
 pub searchable : (c : Catalog) → PlanlessFor c → Shaped c.masks × (0 < c.count) × (c.count ≤ 16)
@@ -75,7 +61,7 @@ asked-empty ts [] (asked e) l = (refl, (asks-plan ts [] e).present)
 asked-empty ts [] (sent n) l = let e = n.spelled in let z : ◌≡◌ {A = ℕ} 0 1 = cc in absurd (omega arith)
 asked-empty ts (b ∷ code) f l = absurd (omega arith)
 
-pub formed-empty : (ts : List Table) (code : List ℕ) (r : Formed) (out : List ℕ) → Formable code ts → length code ≡ 0 → (0 < length ts → FormedAs ts [] r out) → FormedAs ts code r out
+pub formed-empty : (ts : List Table) (code : List ℕ) (r : Result ℕ Refusal) (out : List ℕ) → Formable code ts → length code ≡ 0 → (0 < length ts → FormedAs ts [] r out) → FormedAs ts code r out
 formed-empty ts code r out f l is = let (e, p) = asked-empty ts code f l in subst (λ x. FormedAs ts x r out) (sym e) (is p)
 
 pub sent-named : (ts : List Table) (code : List ℕ) → Formable code ts → (length code ≡ 0 → ⊥) → Named code ts
@@ -89,11 +75,12 @@ pub named_for : (c : Catalog) (code : List ℕ) → FormableFor code c → (leng
 named_for c code q l = record { ts = q.ts; tabled = q.tabled; named = sent-named q.ts code q.formable l }
 
 -- ---- what is formed is followed
-module _ (c : Catalog) (ts : List Table) (h : Tabled c ts) (code out : List ℕ) (r : Formed) (is : FormedAs ts code r out) where
-  pub formed-refused : (n d words : ℕ) → r ≡ formed.Refused n d → (free : Schedule) → free ≡ no_schedule → record { verdict = decision.Refused n d; catalog = c; schedule = free } ≡ decided_plan ts code words
-  formed-refused n d words e free f = refused_admission c ts code n d words h (rw e at is) free f
+module _ (c : Catalog) (ts : List Table) (h : Tabled c ts) (code out : List ℕ) (r : Result ℕ Refusal) (is : FormedAs ts code r out) where
+  pub formed-refused : (e : Refusal) (words : ℕ) → r ≡ Err e → (free : Schedule) → free ≡ no_schedule
+      → record { verdict = not-admitted (number_of e.reason) e.detail; catalog = c; schedule = free } ≡ decided_plan ts code words
+  formed-refused e words q free f = refused_admission c ts code (number_of e.reason) e.detail words h (rw q at is) free f
 
-  module _ (n : ℕ) (e : r ≡ formed.Plan n) where
+  module _ (n : ℕ) (e : r ≡ Ok n) where
     pub plan_in : PlanIn ts code n out
     plan_in = rw e at is
 

@@ -1,25 +1,27 @@
 -- One step of the check of well-behaved plans: a single table, and a join of two plans.
 use Prim.Native.Nat.{ℕ, ◌+◌, ◌<◌, ◌^◌}
 use mathlib.Core.Path.{◌≡◌, refl, sym, ap, ap₂, ◌∙◌, fun_ext}
-use mathlib.Core.Bool.{true, false, ◌&&◌}
+use mathlib.Core.Bool.{true, ◌&&◌, and-false}
 use mathlib.Core.List.{List}
 use native.Mathlib.Omega.{arith}
 use lib.ListN.{get_or}
-use lib.Dec.{eqb}
-use borrow.Author.Tests.{eq-eqb, ne_eqb}
+use lib.Dec.{eqb, ltb}
+use borrow.Author.Tests.{ltb-true, ltb-false}
 use lib.Bits.{bit_and, or_lt, and_le_l}
 use Rattle.semantics.specs.Lists.{all, filter}
 use Rattle.semantics.specs.Files.{has_bit}
 use Rattle.semantics.specs.Plans.{Plan, scan, join, leftmost}
 use Rattle.semantics.specs.Shapes.{Shape, attributes, holds, shared, join_attributes}
+use Rattle.std.specs.Prelude.{Option, Some, None, is_some}
 use Rattle.theory.specs.Rules.{behaves, WellBehaved}
-use Rattle.theory.proofs.Cases.{and_left, and_right}
+use Rattle.theory.proofs.Cases.{cases, and_left, and_right}
 use Rattle.theory.proofs.JoinTrees.{holds-scan}
+use Rattle.words.specs.Masks.{Masked}
 use Rattle.words.proofs.Masks.{has_bit_and, union-holds, covers}
 use Rattle.plans.specs.declared.behaviour.Subplan.{Subplan}
 use Rattle.mending.specs.Places.{PlanAt, Planned}
-use Rattle.plans.specs.Judging.{well_behaved, behaves_by, joined_of, Ruled, Judged}
-use Rattle.mending.proofs.Places.{left, right}
+use Rattle.plans.specs.Judging.{well_behaved, behaves_by, joined_of, Ruled, JudgedAs, Judged}
+use Rattle.mending.proofs.Places.{no_other, left, right}
 
 -- the two directions of the test
 pub tested-behaved : (S : Shape) (p : Plan) → well_behaved S p ≡ true → WellBehaved S p
@@ -32,26 +34,10 @@ pub behaved-tested : (S : Shape) (p : Plan) → WellBehaved S p → well_behaved
 behaved-tested S (scan t) w = refl
 behaved-tested S (join l r) w = ap₂ (λ a b. a && b) w.0 (ap₂ (λ a b. a && b) (behaved-tested S l w.1) (behaved-tested S r w.2))
 
--- ---- as the code tests a join
-module _ (l r : Subplan) (m n : ℕ) where
-  abbrev shared-mask : ℕ
-  shared-mask = bit_and l.attributes r.attributes
-
-  pub by_right : bit_and shared-mask (bit_and m n) ≡ shared-mask → l.behaved ≡ true → r.behaved ≡ behaves_by l r m n
-  unfolding behaves_by
-  by_right e h = sym (rw (eq-eqb (bit_and shared-mask (bit_and m n)) shared-mask e, h, behaves_by) refl)
-
-  pub by_left : bit_and shared-mask (bit_and m n) ≡ shared-mask → l.behaved ≡ false → false ≡ behaves_by l r m n
-  unfolding behaves_by
-  by_left e h = sym (rw (eq-eqb (bit_and shared-mask (bit_and m n)) shared-mask e, h, behaves_by) refl)
-
-  pub by-masks : (bit_and shared-mask (bit_and m n) ≡ shared-mask → ⊥) → false ≡ behaves_by l r m n
-  unfolding behaves_by
-  by-masks e = sym (rw (ne_eqb (bit_and shared-mask (bit_and m n)) shared-mask e, behaves_by) refl)
-
+-- ---- what the code finds
 -- a single table: not an FF
 pub one_table : (masks s : List ℕ) (at : ℕ) → (get_or s at 0 ≡ 255 → ⊥) → (x : ℕ) → x ≡ get_or s at 0 → (p : Plan) (e : ℕ) → PlanAt s at p e
-    → Judged masks p e (record { attributes = get_or masks x 0; leftmost = x; next = at + 1; behaved = true })
+    → JudgedAs masks p e (record { attributes = get_or masks x 0; leftmost = x; next = at + 1 })
 one_table masks s at n x q (join l r) e h = absurd (n h.1)
 one_table masks s at n x q (scan t) e h =
     let y : x ≡ t = q ∙ h.1 in
@@ -67,6 +53,10 @@ one_table masks s at n x q (scan t) e h =
       };
     }
 
+pub table_small : (s : List ℕ) (at : ℕ) → (get_or s at 0 ≡ 255 → ⊥) → Planned s at → get_or s at 0 < 16
+table_small s at n q =
+    cases (ltb (get_or s at 0) 16) (λ e. ltb-true (get_or s at 0) 16 e) (λ e. absurd (no_other s at n (ltb-false (get_or s at 0) 16 e) q))
+
 -- the two leftmost tables have all join attributes: a test of masks
 module _ (S : Shape) (l r : Plan) (x y m n : ℕ) (hx : (a : ℕ) → has_bit x a ≡ holds S l a) (hy : (a : ℕ) → has_bit y a ≡ holds S r a)
     (hm : (a : ℕ) → has_bit m a ≡ S.has (leftmost l) a) (hn : (a : ℕ) → has_bit n a ≡ S.has (leftmost r) a) (small : x < 2 ^ 32) where
@@ -76,43 +66,57 @@ module _ (S : Shape) (l r : Plan) (x y m n : ℕ) (hx : (a : ℕ) → has_bit x 
       covers (bit_and x y) (bit_and m n) (omega (arith, and_le_l x y))
       ∙ ap₂ (λ f g. all f (filter g attributes)) (fun_ext (λ a. has_bit_and m n a ∙ ap₂ (λ u v. u && v) (hm a) (hn a))) (fun_ext (λ a. has_bit_and x y a ∙ ap₂ (λ u v. u && v) (hx a) (hy a)))
 
--- so the test of the code is that of the plan
-behaved-join : (S : Shape) (a b : Plan) (l r : Subplan) (m n : ℕ) → eqb (bit_and (bit_and l.attributes r.attributes) (bit_and m n)) (bit_and l.attributes r.attributes) ≡ behaves S a b
-    → l.behaved ≡ well_behaved S a → r.behaved ≡ well_behaved S b → behaves_by l r m n ≡ well_behaved S (join a b)
-unfolding behaves_by
-behaved-join S a b l r m n e p q = ap₂ (λ x y. x && y) e (ap₂ (λ x y. x && y) p q)
-
 -- a join: an FF, a left plan and a right plan
-pub two_plans : (masks s : List ℕ) (at : ℕ) → get_or s at 0 ≡ 255 → (l r : Subplan) → ((p : Plan) (e : ℕ) → PlanAt s (at + 1) p e → Judged masks p e l) → ((p : Plan) (e : ℕ) → PlanAt s l.next p e → Judged masks p e r)
-    → (p : Plan) (e : ℕ) → PlanAt s at p e → Judged masks p e (joined_of l r (get_or masks l.leftmost 0) (get_or masks r.leftmost 0))
-two_plans masks s at q l r f g (scan t) e h = let x : get_or s at 0 ≡ t = h.1 in let y : t < 16 = h.2 in absurd (omega arith)
-two_plans masks s at q l r f g (join a b) e h =
-    let (m, u, v) = h.2 in
-    let jl : Judged masks a m l = f a m u in
-    let jr : Judged masks b e r = g b e (rw jl.next v) in
-    record {
-      leftmost = jl.leftmost;
-      small = jl.small;
-      next = jr.next;
-      rules = λ S M.
-          let ul : Ruled S a l = jl.rules S M in
-          let ur : Ruled S b r = jr.rules S M in
-          record {
-            attributes = λ i. union-holds S a b l.attributes r.attributes i (ul.attributes i) (ur.attributes i);
-            word = or_lt 32 l.attributes r.attributes ul.word ur.word;
-            behaved =
-                behaved-join S a b l r (get_or masks l.leftmost 0) (get_or masks r.leftmost 0)
-                (behaves_test S a b l.attributes r.attributes (get_or masks l.leftmost 0) (get_or masks r.leftmost 0) ul.attributes ur.attributes
-                (λ i. sym (M.bits l.leftmost i jl.small) ∙ ap (λ t. S.has t i) jl.leftmost)
-                (λ i. sym (M.bits r.leftmost i jr.small) ∙ ap (λ t. S.has t i) jr.leftmost) ul.word)
-                ul.behaved ur.behaved;
-          };
-    }
+module _ (masks s : List ℕ) (at : ℕ) (q : get_or s at 0 ≡ 255) where
+  pub not_left : ((p : Plan) (e : ℕ) → PlanAt s (at + 1) p e → Judged masks p e None) → (p : Plan) (e : ℕ) → PlanAt s at p e → Judged masks p e None
+  not_left f (scan t) e h = let x : get_or s at 0 ≡ t = h.1 in let y : t < 16 = h.2 in absurd (omega arith)
+  not_left f (join a b) e h = λ S M. let (m, u, v) = h.2 in rw (f a m u S M) (and-false (behaves S a b))
 
--- the leftmost tables of both sides of a join are table numbers
-module _ (masks s : List ℕ) (at : ℕ) (q : get_or s at 0 ≡ 255) (l : Subplan) (f : (p : Plan) (e : ℕ) → PlanAt s (at + 1) p e → Judged masks p e l) (w : Planned s at) where
-  pub left_index : l.leftmost < 16
-  left_index = let v = left s at q w in (f v.plan v.end v.stands).small
+  module _ (l : Subplan) (f : (p : Plan) (e : ℕ) → PlanAt s (at + 1) p e → JudgedAs masks p e l) where
+    pub not_right : ((p : Plan) (e : ℕ) → PlanAt s l.next p e → Judged masks p e None) → (p : Plan) (e : ℕ) → PlanAt s at p e → Judged masks p e None
+    not_right g (scan t) e h = let x : get_or s at 0 ≡ t = h.1 in let y : t < 16 = h.2 in absurd (omega arith)
+    not_right g (join a b) e h = λ S M.
+        let (m, u, v) = h.2 in
+        rw (g b e (rw (f a m u).next v) S M, and-false (well_behaved S a)) (and-false (behaves S a b))
 
-  pub right_index : (r : Subplan) → ((p : Plan) (e : ℕ) → PlanAt s l.next p e → Judged masks p e r) → r.leftmost < 16
-  right_index r g = let v = right s at l.next q (λ p e h. (f p e h).next) w in (g v.plan v.end v.stands).small
+    pub two_plans : (r : Subplan) → ((p : Plan) (e : ℕ) → PlanAt s l.next p e → JudgedAs masks p e r)
+        → (p : Plan) (e : ℕ) → PlanAt s at p e → Judged masks p e (joined_of l r (get_or masks l.leftmost 0) (get_or masks r.leftmost 0))
+    two_plans r g (scan t) e h = let x : get_or s at 0 ≡ t = h.1 in let y : t < 16 = h.2 in absurd (omega arith)
+    two_plans r g (join a b) e h =
+        let (m, u, v) = h.2 in
+        let jl : JudgedAs masks a m l = f a m u in
+        let jr : JudgedAs masks b e r = g b e (rw jl.next v) in
+        let tested : (S : Shape) → Masked masks S → behaves_by l r (get_or masks l.leftmost 0) (get_or masks r.leftmost 0) ≡ behaves S a b
+        = λ S M.
+        let ul : Ruled S a l = jl.rules S M in
+        behaves_test S a b l.attributes r.attributes (get_or masks l.leftmost 0) (get_or masks r.leftmost 0) ul.attributes (jr.rules S M).attributes
+        (λ i. sym (M.bits l.leftmost i jl.small) ∙ ap (λ t. S.has t i) jl.leftmost)
+        (λ i. sym (M.bits r.leftmost i jr.small) ∙ ap (λ t. S.has t i) jr.leftmost) ul.word in
+        cases (behaves_by l r (get_or masks l.leftmost 0) (get_or masks r.leftmost 0))
+        (λ y. rw y (record {
+          leftmost = jl.leftmost;
+          small = jl.small;
+          next = jr.next;
+          rules = λ S M.
+              let ul : Ruled S a l = jl.rules S M in
+              let ur : Ruled S b r = jr.rules S M in
+              record {
+                attributes = λ i. union-holds S a b l.attributes r.attributes i (ul.attributes i) (ur.attributes i);
+                word = or_lt 32 l.attributes r.attributes ul.word ur.word;
+                behaved = rw (sym (tested S M) ∙ y, ul.behaved, ur.behaved);
+              };
+        }))
+        (λ z. rw z (λ S M. rw (sym (tested S M) ∙ z)))
+
+    -- the leftmost tables of both sides of a join are table numbers
+    module _ (w : Planned s at) where
+      pub left_index : l.leftmost < 16
+      left_index = let v = left s at q w in (f v.plan v.end v.stands).small
+
+      pub right_index : (r : Subplan) → ((p : Plan) (e : ℕ) → PlanAt s l.next p e → JudgedAs masks p e r) → r.leftmost < 16
+      right_index r g = let v = right s at l.next q (λ p e h. (f p e h).next) w in (g v.plan v.end v.stands).small
+
+-- ---- the whole
+pub judged-behaved : (masks : List ℕ) (S : Shape) → Masked masks S → (p : Plan) (e : ℕ) (o : Option Subplan) → Judged masks p e o → is_some o ≡ well_behaved S p
+judged-behaved masks S M p e None j = sym (j S M)
+judged-behaved masks S M p e (Some r) j = sym (j.rules S M).behaved

@@ -24,32 +24,32 @@ use Rattle.tables.specs.PlanTables.{PlanTables}
 use Rattle.theory.proofs.Mendable.{small_each}
 use Rattle.tables.proofs.Catalogs.{mask_at, rows_at, start_at, counts_at_lem, ahead_at}
 use Rattle.tables.proofs.CopyColumns.{copies_each}
-use Rattle.plans.specs.declared.admission.Verdict.TheVariants as decision
-use Rattle.scheduling.specs.Schedules.{Schedule, row_counts, turns_in, placements_in, schedule_with, schedule_of}
-use Rattle.plans.specs.Admissions.{verdict_of, schedule_for, Decided, decided_of, AdmittedAs, AdmittedOf}
+use Rattle.scheduling.specs.declared.Schedule.{Schedule}
+use Rattle.scheduling.specs.Schedules.{row_counts, turns_in, placements_in, schedule_with, schedule_of}
+use Rattle.plans.specs.Admissions.{not-admitted, is-admitted, verdict_of, schedule_for, Decided, decided_of, AdmittedAs, AdmittedOf}
 use Rattle.plans.specs.Prepared.{Sized, Prepared}
 use Rattle.scheduling.proofs.Growing.{turns-length}
 use Rattle.scheduling.proofs.Tops.{top_placed}
 use Rattle.scheduling.proofs.ByPosition.{schedule-joins, schedule_first, turns_below, parents_below}
 
 -- ---- the answer `admitted` comes with a catalog and a schedule
-pub admitted-as : (bytes : List ℕ) (words : ℕ) (a : Decided) → a ≡ decided_of bytes words → a.verdict ≡ decision.Admitted → AdmittedOf bytes words a.catalog a.schedule
+pub admitted-as : (bytes : List ℕ) (words : ℕ) (a : Decided) → a ≡ decided_of bytes words → a.verdict ≡ is-admitted → AdmittedOf bytes words a.catalog a.schedule
 unfolding decided_of
 admitted-as bytes words a e h =
     verdict-cases (verdict bytes words)
-    (λ n d v. let q : decision.Refused n d ≡ decision.Admitted = sym (ap verdict_of v) ∙ sym (ap (λ x. x.verdict) e) ∙ h in let w : ◌≡◌ {A = ℕ} 0 1 = cc in absurd (omega arith))
+    (λ n d v. let q : not-admitted n d ≡ is-admitted = sym (ap verdict_of v) ∙ sym (ap (λ x. x.verdict) e) ∙ h in let w : ◌≡◌ {A = ℕ} 0 1 = cc in absurd (omega arith))
     (λ ts p v.
     let t : ts ≡ (read bytes).tables = rules-tables bytes ts p (verdict-rules bytes words ts p v).0 in
     record { ts = ts; plan = p; admitted = record { accepted = v; catalog = ap (λ x. x.catalog) e ∙ ap catalog_of (sym t); schedule = ap (λ x. x.schedule) e ∙ ap schedule_for v } })
 
 -- and a refusal is the verdict's
-pub refused_as : (bytes : List ℕ) (words : ℕ) (a : Decided) → a ≡ decided_of bytes words → (n d : ℕ) → a.verdict ≡ decision.Refused n d → verdict bytes words ≡ refused n d
+pub refused_as : (bytes : List ℕ) (words : ℕ) (a : Decided) → a ≡ decided_of bytes words → (n d : ℕ) → a.verdict ≡ not-admitted n d → verdict bytes words ≡ refused n d
 unfolding decided_of
 refused_as bytes words a e n d h =
     let v : a.verdict ≡ verdict_of (verdict bytes words) = ap (λ x. x.verdict) e in
     verdict-cases (verdict bytes words)
-    (λ m k w. let q : decision.Refused n d ≡ decision.Refused m k = sym h ∙ v ∙ ap verdict_of w in let x : n ≡ m = cc in let y : d ≡ k = cc in rw (x, y) w)
-    (λ ts p w. let q : decision.Refused n d ≡ decision.Admitted = sym h ∙ v ∙ ap verdict_of w in let x : ◌≡◌ {A = ℕ} 0 1 = cc in absurd (omega arith))
+    (λ m k w. let q : not-admitted n d ≡ not-admitted m k = sym h ∙ v ∙ ap verdict_of w in let x : n ≡ m = cc in let y : d ≡ k = cc in rw (x, y) w)
+    (λ ts p w. let q : not-admitted n d ≡ is-admitted = sym h ∙ v ∙ ap verdict_of w in let x : ◌≡◌ {A = ℕ} 0 1 = cc in absurd (omega arith))
 
 -- ---- the arrays
 field-length : {A : Type 0} (f : A → ℕ) (xs : List A) → length xs ≤ 16 → length (padded (map f xs)) ≡ 16

@@ -19,14 +19,17 @@ use Rattle.words.specs.Arrays.{padded}
 use Rattle.words.proofs.Arrays.{padded_at}
 use Rattle.tables.specs.declared.Catalog.{Catalog}
 use Rattle.tables.proofs.Catalogs.{rows_at}
-use Rattle.plans.specs.declared.admission.Verdict.TheVariants as decision
-use Rattle.plans.specs.declared.admission.Check.{Check}
-use Rattle.plans.specs.declared.admission.Check.TheVariants as check
+use Rattle.plans.specs.declared.admission.Followed.{Followed}
+use Rattle.plans.specs.declared.admission.Followed.TheVariants as followed
+use Rattle.std.specs.Prelude.{Result, Ok, Err}
+use Rattle.refusals.specs.declared.Refusal.{Refusal}
+use Rattle.refusals.specs.Refusals.{number_of}
 use Rattle.storage.specs.Layout.{storage_size, storage}
 use Rattle.storage.proofs.Sizes.{storage-le, storage-need}
 use Rattle.mending.specs.Places.{PlanAt}
-use Rattle.scheduling.specs.Schedules.{Schedule, row_counts, schedule_with, schedule_of, no_schedule, Plannable}
-use Rattle.plans.specs.Admissions.{Tabled, Catalogued, check_of, Formable, Follows, Accepted, Decided, decided_by, decided_following, decided_plan}
+use Rattle.scheduling.specs.declared.Schedule.{Schedule}
+use Rattle.scheduling.specs.Schedules.{row_counts, schedule_with, schedule_of, no_schedule, Plannable}
+use Rattle.plans.specs.Admissions.{not-admitted, is-admitted, Tabled, Catalogued, check_of, Formable, Follows, Accepted, Decided, decided_by, decided_following, decided_plan}
 use Rattle.plans.specs.Forming.{FormableFor}
 use Rattle.mending.proofs.Places.{spelled-stands}
 use Rattle.plans.proofs.Judging.{tested-behaved}
@@ -34,9 +37,9 @@ use Rattle.plans.proofs.Admitting.{masks_are, rows_are, rows_few, spelled-sent, 
 
 -- a refusal of the plan record
 pub refused_admission : (c : Catalog) (ts : List Table) (code : List ℕ) (n d words : ℕ) → Tabled c ts → plan_verdict ts code ≡ refused n d → (free : Schedule) → free ≡ no_schedule
-    → record { verdict = decision.Refused n d; catalog = c; schedule = free } ≡ decided_plan ts code words
+    → record { verdict = not-admitted n d; catalog = c; schedule = free } ≡ decided_plan ts code words
 unfolding decided_plan scratch_verdict
-refused_admission c ts code n d words h v free f = rw (v, scratch_verdict) (λ i. record { verdict = decision.Refused n d; catalog = h.is i; schedule = f i })
+refused_admission c ts code n d words h v free f = rw (v, scratch_verdict) (λ i. record { verdict = not-admitted n d; catalog = h.is i; schedule = f i })
 
 module _ (c : Catalog) (code : List ℕ) (ts : List Table) (h : Tabled c ts) (a : Follows code ts) where
   within : WithinRules ts (plan_of code)
@@ -83,20 +86,20 @@ module _ (c : Catalog) (code : List ℕ) (ts : List Table) (h : Tabled c ts) (a 
         omega (arith, first_rows_lem, used_is, ap (λ f. storage f (plan_of code) + storage_size (f (leftmost (plan_of code)))) rows_is, storage-need (shape_of ts) (plan_of code), rows-count ts (plan_of code) within)
 
     module _ (words need : ℕ) (counted : need ≡ s.used + storage_size (get_or c.rows (get_or s.order 0 0) 0)) where
-      pub scratch-short : words < need → (free : Schedule) → free ≡ no_schedule → record { verdict = decision.Refused 10 need; catalog = c; schedule = free } ≡ decided_following ts (plan_of code) words
+      pub scratch-short : words < need → (free : Schedule) → free ≡ no_schedule → record { verdict = not-admitted 10 need; catalog = c; schedule = free } ≡ decided_following ts (plan_of code) words
       unfolding decided_following scratch_verdict
       scratch-short lt free e =
           let n : need ≡ scratch_need ts (plan_of code) = counted ∙ need_is in
           rw (lt-ltb words (scratch_need ts (plan_of code)) (omega arith), scratch_verdict)
-          (λ i. record { verdict = decision.Refused 10 (n i); catalog = h.is i; schedule = e i })
+          (λ i. record { verdict = not-admitted 10 (n i); catalog = h.is i; schedule = e i })
 
-      pub scratch_enough : need ≤ words → record { verdict = decision.Admitted; catalog = c; schedule = s } ≡ decided_following ts (plan_of code) words
+      pub scratch_enough : need ≤ words → record { verdict = is-admitted; catalog = c; schedule = s } ≡ decided_following ts (plan_of code) words
       unfolding decided_following scratch_verdict
       scratch_enough le =
           let n : need ≡ scratch_need ts (plan_of code) = counted ∙ need_is in
           let q : s ≡ schedule_of (padded (map (λ t. t.mask) ts)) (row_counts (padded (map (λ t. t.rows) ts))) (plan_of code) = schedule_is ∙ ap₂ (λ x y. schedule_of x (row_counts y) (plan_of code)) (masks_are c ts h) (rows_are c ts h) in
           rw (le-ltb words (scratch_need ts (plan_of code)) (omega arith), scratch_verdict)
-          (λ i. record { verdict = decision.Admitted; catalog = h.is i; schedule = q i })
+          (λ i. record { verdict = is-admitted; catalog = h.is i; schedule = q i })
 
 -- ---- what the check of the plan tells
 -- a well-behaved plan is followed as it was sent
@@ -109,8 +112,8 @@ behaved-follows ts code few p =
     let v = plan-sent ts code (spelled-sent ts code p.named.spelled) ∙ u in
     (record { spelled = p.named.spelled; within = (plan-within ts ts code (plan_of code) few v).1 }, v)
 
-module _ (c : Catalog) (code : List ℕ) (r : Check) (checked : (ts : List Table) → Tabled c ts → r ≡ check_of ts code) where
-  module _ (e : r ≡ check.AsSent) where
+module _ (c : Catalog) (code : List ℕ) (r : Result Followed Refusal) (checked : (ts : List Table) → Tabled c ts → r ≡ check_of ts code) where
+  module _ (e : r ≡ Ok followed.AsSent) where
     as-sent-follows : (ts : List Table) → Tabled c ts → Follows code ts × (plan_verdict ts code ≡ admitted ts (plan_of code))
     as-sent-follows ts h = behaved-follows ts code h.few (check-as-sent ts code (sym e ∙ checked ts h))
 
@@ -124,12 +127,12 @@ module _ (c : Catalog) (code : List ℕ) (r : Check) (checked : (ts : List Table
     unfolding decided_following decided_plan
     as-sent ts h words a q = q ∙ ap (λ v. decided_by ts (scratch_verdict words v)) (sym (as-sent-follows ts h).1)
 
-  pub formable : r ≡ check.Formed → (ts : List Table) → Tabled c ts → Formable code ts
+  pub formable : r ≡ Ok followed.Formed → (ts : List Table) → Tabled c ts → Formable code ts
   formable e ts h = check_formed ts code (sym e ∙ checked ts h)
 
-  pub formable_for : r ≡ check.Formed → Catalogued c → FormableFor code c
+  pub formable_for : r ≡ Ok followed.Formed → Catalogued c → FormableFor code c
   formable_for e q = record { ts = q.ts; tabled = q.tabled; formable = formable e q.ts q.tabled }
 
-  pub plan-refused : (n d words : ℕ) → r ≡ check.Refused n d → (free : Schedule) → free ≡ no_schedule → (ts : List Table) → Tabled c ts
-      → record { verdict = decision.Refused n d; catalog = c; schedule = free } ≡ decided_plan ts code words
-  plan-refused n d words e free f ts h = refused_admission c ts code n d words h (check-refused ts code n d (sym e ∙ checked ts h)) free f
+  pub plan-refused : (e : Refusal) (words : ℕ) → r ≡ Err e → (free : Schedule) → free ≡ no_schedule → (ts : List Table) → Tabled c ts
+      → record { verdict = not-admitted (number_of e.reason) e.detail; catalog = c; schedule = free } ≡ decided_plan ts code words
+  plan-refused e words q free f ts h = refused_admission c ts code (number_of e.reason) e.detail words h (check-refused ts code e (sym q ∙ checked ts h)) free f

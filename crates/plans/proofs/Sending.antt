@@ -25,12 +25,12 @@ use Rattle.theory.proofs.Mending.{sums-once}
 use Rattle.theory.proofs.Rules.{plan-sent}
 use Rattle.mending.specs.Parts.{shape_in}
 use Rattle.mending.specs.Rooting.{Distinct}
-use Rattle.mending.specs.Lacking.{found_of}
 use Rattle.mending.specs.Whole.{Sent, Mends}
-use Rattle.mending.specs.declared.lacking.Found.{Found}
-use Rattle.mending.specs.declared.lacking.Found.TheVariants as found
+use Rattle.std.specs.Prelude.{Result, Ok, Err}
+use Rattle.refusals.specs.declared.Refusal.{Refusal}
+use Rattle.refusals.specs.Refusals.{number_of, refused_at}
+use Rattle.refusals.proofs.Numbers.{refused_none, refused_some}
 use Rattle.mending.proofs.Places.{spelled-stands}
-use Rattle.mending.proofs.Lacks.{found_none, found_at}
 use Rattle.tables.specs.declared.Catalog.{Catalog}
 use Rattle.tables.proofs.Catalogs.{mask_at, rows_at}
 use Rattle.plans.specs.Admissions.{Tabled, Named, NamedFor}
@@ -106,21 +106,22 @@ module _ (c : Catalog) (ts : List Table) (h : Tabled c ts) where
           few = λ t. rw (rows_is t) (each_at (λ t. t.rows ≤ 4096) ts no_table h.rows (omega arith) t);
         }
 
-    module _ (before out : List ℕ) (r : Found) (m : Mends (shape_in c.masks c.rows) (plan_of code) (length code) before out r) where
-      answer_is : r ≡ found_of (unmendable (shape_of ts) (plan_of code) 0)
-      answer_is = m.answer ∙ ap (λ S. found_of (unmendable S (plan_of code) 0)) shape_is
+    module _ (before out : List ℕ) (r : Result (Unit {0}) Refusal) (m : Mends (shape_in c.masks c.rows) (plan_of code) (length code) before out r) where
+      answer_is : r ≡ refused_at 9 (unmendable (shape_of ts) (plan_of code) 0)
+      answer_is = m.answer ∙ ap (λ S. refused_at 9 (unmendable S (plan_of code) 0)) shape_is
 
       -- answer 9
-      pub mended-refused : (i : ℕ) → r ≡ found.At i → plan_verdict ts code ≡ refused 9 i
+      pub mended-refused : (e : Refusal) → r ≡ Err e → plan_verdict ts code ≡ refused (number_of e.reason) e.detail
       unfolding sent_verdict
-      mended-refused i e =
+      mended-refused e q =
+          let (o, z) = refused_some 9 (unmendable (shape_of ts) (plan_of code) 0) e (sym q ∙ answer_is) in
           plan-sent ts code (spelled-sent ts code n.spelled)
-          ∙ rw (n.spelled, n.named, found_at (unmendable (shape_of ts) (plan_of code) 0) i (sym answer_is ∙ e), sent_verdict) refl
+          ∙ rw (n.spelled, n.named, o, sent_verdict) (ap (λ x. refused (number_of x.reason) e.detail) (sym z))
 
       -- or the mended plan
-      module _ (e : r ≡ found.Nothing) where
+      module _ (e : r ≡ Ok tt) where
         none_9 : unmendable (shape_of ts) (plan_of code) 0 ≡ none
-        none_9 = found_none (unmendable (shape_of ts) (plan_of code) 0) (sym answer_is ∙ e)
+        none_9 = refused_none 9 (unmendable (shape_of ts) (plan_of code) 0) (sym e ∙ answer_is)
 
         admitted_is : plan_verdict ts code ≡ admitted ts (mend (shape_of ts) (plan_of code))
         unfolding sent_verdict

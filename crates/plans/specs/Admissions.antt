@@ -1,5 +1,5 @@
 -- What admission gives for what `semantics` decides.
-use Rattle.std.specs.Prelude.{◌≡◌, Bool, true, false, ◌&&◌, List, [], map, ℕ, ◌<◌, ◌≤◌, ◌^◌, length, eqb, ltb}
+use Rattle.std.specs.Prelude.{◌≡◌, Bool, true, false, ◌&&◌, List, [], map, ℕ, ◌<◌, ◌≤◌, ◌^◌, length, eqb, ltb, Result, Ok, Err}
 use Rattle.std.proofs.Math.Option.{none, some}
 use Rattle.theory.specs.Elements.{Each}
 use Rattle.semantics.specs.Files.{Table, read}
@@ -10,14 +10,13 @@ use Rattle.theory.specs.Rules.{WithinRules}
 use Rattle.words.specs.Arrays.{padded}
 use Rattle.tables.specs.declared.Catalog.{Catalog}
 use Rattle.tables.specs.Catalogs.{catalog_of}
-use Rattle.scheduling.specs.declared.Extent.{Extent}
-use Rattle.plans.specs.declared.admission.Verdict.{Verdict as Decision}
-use Rattle.plans.specs.declared.admission.Verdict.TheVariants as decision
-use Rattle.plans.specs.declared.admission.Check.{Check}
-use Rattle.plans.specs.declared.admission.Check.TheVariants as check
-use Rattle.plans.specs.declared.admission.Ruling.{Ruling}
+use Rattle.refusals.specs.declared.Refusal.{Refusal}
+use Rattle.refusals.specs.Refusals.{number_of, refusal_of}
+use Rattle.plans.specs.declared.admission.Followed.{Followed}
+use Rattle.plans.specs.declared.admission.Followed.TheVariants as followed
 use Rattle.plans.specs.Judging.{well_behaved}
-use Rattle.scheduling.specs.Schedules.{Schedule, schedule_in, row_counts, no_schedule, schedule_of}
+use Rattle.scheduling.specs.declared.Schedule.{Schedule}
+use Rattle.scheduling.specs.Schedules.{row_counts, no_schedule, schedule_of}
 
 -- the catalog holds these tables, as a file within the rules has them
 pub record Tabled (c : Catalog) (ts : List Table) : Type 0 where
@@ -35,20 +34,20 @@ unfoldable pub asks_for : ℕ → List ℕ → Bool
 asks_for n code = eqb (length code) 0 && ltb 0 n
 
 -- what answers 7 and 8 leave of a plan that is sent
-unfoldable pub sent_check : List Table → List ℕ → Check
+unfoldable pub sent_check : List Table → List ℕ → Result Followed Refusal
 sent_check ts code =
     elim (misplaced 1 0 code) [
-      | some i ↦ check.Refused 7 i
+      | some i ↦ Err (refusal_of 7 i)
       | none ↦
           elim (misnamed (length ts) [] 0 code) [
-            | some i ↦ check.Refused 8 i
-            | none ↦ elim (well_behaved (shape_of ts) (plan_of code)) [ true ↦ check.AsSent | false ↦ check.Formed ]
+            | some i ↦ Err (refusal_of 8 i)
+            | none ↦ elim (well_behaved (shape_of ts) (plan_of code)) [ true ↦ Ok followed.AsSent | false ↦ Ok followed.Formed ]
           ]
     ]
 
 -- and where none is
-unfoldable pub check_of : List Table → List ℕ → Check
-check_of ts code = elim (asks_for_plan ts code) [ true ↦ check.Formed | false ↦ sent_check ts code ]
+unfoldable pub check_of : List Table → List ℕ → Result Followed Refusal
+check_of ts code = elim (asks_for_plan ts code) [ true ↦ Ok followed.Formed | false ↦ sent_check ts code ]
 
 -- 7 and 8 are not due for the plan's bytes and these tables
 pub record Named (code : List ℕ) (ts : List Table) : Type 0 where
@@ -76,18 +75,23 @@ pub record Accepted (code : List ℕ) (c : Catalog) : Type 0 where
   pub tabled : Tabled c ts
   pub follows : Follows code ts
 
+-- whether a file is admitted: refused with a number and its detail, or admitted; as the code says it, and as a verdict does
+pub data Decision : Type 0 where
+  not-admitted : ℕ → ℕ → Decision
+  is-admitted : Decision
+
+abbrev pub decision_of : Result (Unit {0}) Refusal → Decision
+decision_of (Err r) = not-admitted (number_of r.reason) r.detail
+decision_of (Ok u) = is-admitted
+
 abbrev pub verdict_of : Verdict → Decision
-verdict_of (refused n d) = decision.Refused n d
-verdict_of (admitted ts p) = decision.Admitted
+verdict_of (refused n d) = not-admitted n d
+verdict_of (admitted ts p) = is-admitted
 
 -- the schedule of an admitted plan
 abbrev pub schedule_for : Verdict → Schedule
 schedule_for (refused n d) = no_schedule
 schedule_for (admitted ts p) = schedule_of (padded (map (λ t. t.mask) ts)) (row_counts (padded (map (λ t. t.rows) ts))) p
-
--- a refusal, with nothing scheduled
-abbrev pub refusal_of : ℕ → ℕ → Ruling
-refusal_of n d = record { verdict = decision.Refused n d; extent = record { joins = 0; tables = 0; used = 0 } }
 
 -- what is decided: the verdict, the catalog of the tables read before it, and the schedule of an admitted plan
 pub record Decided : Type 0 where
@@ -95,9 +99,8 @@ pub record Decided : Type 0 where
   pub catalog : Catalog
   pub schedule : Schedule
 
--- where a schedule of that extent stands in keys and lists
-abbrev pub decided_in : Decision → Catalog → Extent → List ℕ → List (List ℕ) → Decided
-decided_in v c e keys lists = record { verdict = v; catalog = c; schedule = schedule_in e keys lists }
+abbrev pub decided_in : Result (Unit {0}) Refusal → Catalog → Schedule → Decided
+decided_in v c s = record { verdict = decision_of v; catalog = c; schedule = s }
 
 -- by a verdict on these tables
 abbrev pub decided_by : List Table → Verdict → Decided
@@ -111,20 +114,20 @@ decided_following ts p words = decided_by ts (scratch_verdict words (admitted ts
 unfoldable pub decided_plan : List Table → List ℕ → ℕ → Decided
 decided_plan ts code words = decided_by ts (scratch_verdict words (plan_verdict ts code))
 
--- a ruling, with the schedule that stands in these lists, is: that of the plan that the bytes spell, where the join can follow it; of
+-- a verdict, with a schedule, is: that of the plan that the bytes spell, where the join can follow it; of
 -- the plan record, where a plan is to be formed; of the plan record
-abbrev pub FollowedBy : Catalog → List ℕ → ℕ → Ruling → List ℕ → List (List ℕ) → Type 0
-FollowedBy c code words r keys lists =
+abbrev pub FollowedBy : Catalog → List ℕ → ℕ → Result (Unit {0}) Refusal → Schedule → Type 0
+FollowedBy c code words v s =
     (ts : List Table) → Tabled c ts → Follows code ts
-    → decided_in r.verdict c r.extent keys lists ≡ decided_following ts (plan_of code) words
+    → decided_in v c s ≡ decided_following ts (plan_of code) words
 
-abbrev pub FormedBy : Catalog → List ℕ → ℕ → Ruling → List ℕ → List (List ℕ) → Type 0
-FormedBy c code words r keys lists =
-    (ts : List Table) → Tabled c ts → Formable code ts → decided_in r.verdict c r.extent keys lists ≡ decided_plan ts code words
+abbrev pub FormedBy : Catalog → List ℕ → ℕ → Result (Unit {0}) Refusal → Schedule → Type 0
+FormedBy c code words v s =
+    (ts : List Table) → Tabled c ts → Formable code ts → decided_in v c s ≡ decided_plan ts code words
 
-abbrev pub RuledBy : Catalog → List ℕ → ℕ → Ruling → List ℕ → List (List ℕ) → Type 0
-RuledBy c code words r keys lists =
-    (ts : List Table) → Tabled c ts → decided_in r.verdict c r.extent keys lists ≡ decided_plan ts code words
+abbrev pub RuledBy : Catalog → List ℕ → ℕ → Result (Unit {0}) Refusal → Schedule → Type 0
+RuledBy c code words v s =
+    (ts : List Table) → Tabled c ts → decided_in v c s ≡ decided_plan ts code words
 
 -- the answers 1 to 10 and 14, or the catalog and the schedule
 unfoldable pub decided_of : List ℕ → ℕ → Decided

@@ -11,7 +11,8 @@ use Rattle.storage.specs.Positions.{top_at, WordsAt}
 use Rattle.tables.specs.declared.Catalog.{Catalog}
 use Rattle.tables.specs.Catalogs.{table_at, columns_of, counts_at, CopiesAhead}
 use Rattle.tables.specs.Copies.{CopiesOf}
-use Rattle.scheduling.specs.Schedules.{Schedule, row_counts, turns_in, top_in}
+use Rattle.scheduling.specs.declared.Schedule.{Schedule}
+use Rattle.scheduling.specs.Schedules.{row_counts, turns_in, top_in}
 use Rattle.scheduling.specs.ByPosition.{JoinsPlaced}
 
 -- the arrays of the catalog have 16 places each

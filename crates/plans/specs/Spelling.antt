@@ -1,17 +1,18 @@
 -- What the plan reader promises.
-use Rattle.std.specs.Prelude.{◌≡◌, List, ℕ, suc, ◌≤◌, ◌<◌, length, drop}
-use Rattle.std.proofs.Math.Option.{Option, some}
+use Rattle.std.specs.Prelude.{◌≡◌, List, ℕ, suc, ◌≤◌, ◌<◌, length, drop, Result, Ok, Err}
+use Rattle.std.proofs.Math.Option.{Option as Maybe, some}
 use Rattle.semantics.specs.Plans.{misplaced}
-use Rattle.plans.specs.declared.spelling.PlanEnd.{PlanEnd}
-use Rattle.plans.specs.declared.spelling.PlanEnd.TheVariants as end
+use Rattle.refusals.specs.declared.Refusal.{Refusal}
+use Rattle.refusals.specs.Refusals.{refusal_of}
 
 -- the rest of the spelling check, when that many further plans are owed behind the one read
-abbrev pub continued : List ℕ → ℕ → PlanEnd → Option ℕ
-continued s owed (end.End i) = misplaced owed i (drop i s)
-continued s owed (end.Bad i) = some i
+abbrev pub continued : List ℕ → ℕ → Result ℕ Refusal → Maybe ℕ
+continued s owed (Ok i) = misplaced owed i (drop i s)
+continued s owed (Err r) = some r.detail
 
 -- the plan that begins at index at was read, with this end
-pub record PlanRead (s : List ℕ) (at : ℕ) (r : PlanEnd) : Type 0 where
+pub record PlanRead (s : List ℕ) (at : ℕ) (r : Result ℕ Refusal) : Type 0 where
   pub spells : (owed : ℕ) → misplaced (suc owed) at (drop at s) ≡ continued s owed r
-  pub later : (i : ℕ) → r ≡ end.End i → at < i
-  pub inside : (i : ℕ) → r ≡ end.End i → i ≤ length s
+  pub later : (i : ℕ) → r ≡ Ok i → at < i
+  pub inside : (i : ℕ) → r ≡ Ok i → i ≤ length s
+  pub refused : (e : Refusal) → r ≡ Err e → e ≡ refusal_of 7 e.detail

@@ -9,4 +9,4 @@ mod forming;
 mod naming;
 mod spelling;
 
-pub use admission::{Admission, Verdict, admit};
+pub use admission::{Admission, admit};

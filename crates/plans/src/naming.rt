@@ -1,42 +1,37 @@
 // Answer 8: each table is named exactly once.
-ghost use Rattle.std.specs.Prelude.{◌≡◌, [], ◌<◌, ◌≤◌};
+ghost use Rattle.std.specs.Prelude.{◌≡◌, [], ◌≤◌};
 ghost use Rattle.semantics.specs.Plans.{misnamed};
-ghost use Rattle.mending.specs.Lacking.{found_of};
+ghost use Rattle.refusals.specs.Refusals.{refused_at};
 
-use mending::Found;
+use refusals::{Reason, Refusal};
 
-// The first byte that names a table that is absent, of that many, or already named; the end where a table is not named.
-pub(crate) fn first_misnamed(code: &[u8], tables: usize) -> Found
+// Whether each of that many tables is named once; else the first byte that names one that is absent or already named, or the end where
+// one is not named.
+pub(crate) fn check_naming(code: &[u8], tables: usize) -> Result<(), Refusal>
     requires { tables ≤ 16 }
-    ensures { result ≡ found_of (misnamed tables [] 0 code.now) }
+    ensures { result ≡ refused_at 8 (misnamed tables [] 0 code.now) }
 {
     let mut named = [false; 16];
     let mut count = 0;
-    let mut i = 0;
-    while i < code.len() {
-        let b = code[i];
-        match b {
-            0..=15 => {
-                let t = words::index(b);
-                if tables <= t {
-                    return Found::At(i);
-                }
-                if named[t] {
-                    return Found::At(i);
-                }
-                named[t] = true;
-                count += 1;
+    for (i, b) in code.iter().enumerate() {
+        if *b != 255 {
+            let t = usize::from(*b);
+            if tables <= t || named[t] {
+                return Err(Refusal {
+                    reason: Reason::NotNamedOnce,
+                    detail: i,
+                });
             }
-            255 => {}
-            _ => {
-                return Found::At(i);
-            }
+            named[t] = true;
+            count += 1;
         }
-        i += 1;
     }
     if count == tables {
-        Found::Nothing
+        Ok(())
     } else {
-        Found::At(i)
+        Err(Refusal {
+            reason: Reason::NotNamedOnce,
+            detail: code.len(),
+        })
     }
 }

@@ -1,8 +1,13 @@
 -- The catalog of a list of tables: empty, with one table more, and what it holds of a table.
-use mathlib.Core.Path.{◌≡◌, refl, sym, ap₂, ◌∙◌}
+use mathlib.Core.Path.{◌≡◌, refl, sym, ap, ap₂, ◌∙◌}
 use mathlib.Core.List.{List, [], ◌∷◌, ◌++◌, map}
 use Prim.Native.Nat.{ℕ, ◌+◌, ◌*◌, ◌%◌, ◌^◌, ◌<◌}
-use lib.ListN.{length, get_or, set, replicate, length-append}
+use lib.ListN.{length, get_or, set, length-append}
+use lib.Bits.{bit_or}
+use Rattle.std.specs.Int.{from_bool}
+use mathlib.Core.Bool.{Bool, true, false}
+use native.Mathlib.Omega.{arith}
+use Rattle.tables.specs.declared.Entry.{Entry}
 use Rattle.semantics.specs.Files.{Table, has_bit}
 use Rattle.semantics.specs.Shapes.{no_table}
 use Rattle.words.specs.Arrays.{padded}
@@ -11,31 +16,27 @@ use Rattle.tables.specs.declared.Catalog.{Catalog}
 use Rattle.theory.specs.Elements.{one_if, Each}
 use Rattle.theory.specs.Rules.{Fitting}
 use Rattle.tables.specs.Copies.{counts_of, counted_bits, copies_start}
-use Rattle.tables.specs.Catalogs.{catalog_of, counts_at, CopiesAhead}
-use Rattle.tables.proofs.CountedBits.{bits_more, bits_small, bits_at, start_by, before_each}
-
-pub catalog-empty : record { count = 0; masks = replicate 16 0; rows = replicate 16 0; starts = replicate 16 0; counted = 0 } ≡ catalog_of []
-unfolding catalog_of
-catalog-empty = refl
+use Rattle.tables.specs.Catalogs.{catalog_of, entry_of, counts_at, CopiesAhead}
+use Rattle.tables.proofs.CountedBits.{bits_more, bits_at, start_by, before_each}
 
 pub catalog-count : (ts : List Table) → (catalog_of ts).count ≡ length ts
 unfolding catalog_of
 catalog-count ts = refl
 
--- the catalog c with a table stored at its first free places
-abbrev pub with_table : Catalog → ℕ → ℕ → ℕ → ℕ → Catalog
-with_table c mask rows start counted =
+-- the catalog c with a table at the first free places; b is 1 where it has copies, else 0
+abbrev pub with_entry : Catalog → Entry → ℕ → Catalog
+with_entry c e b =
     record {
       count = c.count + 1;
-      masks = set c.masks c.count mask;
-      rows = set c.rows c.count rows;
-      starts = set c.starts c.count start;
-      counted = c.counted + (counted * 2 ^ c.count) % 18446744073709551616;
+      masks = set c.masks c.count e.mask;
+      rows = set c.rows c.count e.rows;
+      starts = set c.starts c.count e.start;
+      counted = bit_or c.counted ((b * 2 ^ c.count) % 18446744073709551616);
     }
 
-pub catalog_more : (ts : List Table) (t : Table) → length ts < 16 → with_table (catalog_of ts) t.mask t.rows t.start (one_if t.counted) ≡ catalog_of (ts ++ (t ∷ []))
+one_more : (ts : List Table) (t : Table) (size : ℕ) → length ts < 16 → with_entry (catalog_of ts) (entry_of t size) (one_if t.counted) ≡ catalog_of (ts ++ (t ∷ []))
 unfolding catalog_of
-catalog_more ts t h =
+one_more ts t size h =
     let n : length ts + 1 ≡ length (ts ++ (t ∷ [])) = simp length-append in
     λ i. record {
       count = n i;
@@ -45,10 +46,15 @@ catalog_more ts t h =
       counted = bits_more ts t h i;
     }
 
--- the set of bits stays a word
-pub catalog_small : (ts : List Table) (t : Table) → length ts < 16 → (catalog_of ts).counted + (one_if t.counted * 2 ^ (catalog_of ts).count) % 18446744073709551616 < 18446744073709551616
-unfolding catalog_of
-catalog_small ts t h = bits_small ts t h
+pub catalog_more : (c : Catalog) (e : Entry) (b : ℕ) → c.count < 16 → b ≡ from_bool e.counted → (ts : List Table) (t : Table) → c ≡ catalog_of ts → e ≡ entry_of t e.size → with_entry c e b ≡ catalog_of (ts ++ (t ∷ []))
+catalog_more c e b room number ts t is entry =
+    let few : length ts < 16 = omega (arith, ap (λ c. c.count) is ∙ catalog-count ts) in
+    let one : b ≡ one_if t.counted = number ∙ ap (λ e. from_bool e.counted) entry ∙ as_number t.counted in
+    ap₂ (λ c e. with_entry c e b) is entry ∙ ap (with_entry (catalog_of ts) (entry_of t e.size)) one ∙ one_more ts t e.size few
+  where
+    as_number : (b : Bool) → from_bool b ≡ one_if b
+    as_number true = refl
+    as_number false = refl
 
 -- ---- what the arrays hold of table number i
 module _ (ts : List Table) (i : ℕ) where

@@ -4,7 +4,6 @@ use mathlib.Core.Bool.{true}
 use Prim.Native.Nat.{ℕ, zero, suc, ◌+◌, ◌*◌, ◌-◌, ◌≤◌, ◌<◌}
 use native.Mathlib.Nat.{mul-le-mul, le_refl, add-zero, add-mul, one-mul}
 use native.Mathlib.Omega.{arith}
-use borrow.Author.Tests.{le-ltb}
 use Rattle.semantics.specs.Lists.{sum, from, up_to}
 use Rattle.semantics.specs.Files.{Table, table_with, bit, has_bit, ones_below, arity, column_bytes, column_start}
 use Rattle.theory.specs.Rules.{Fitting}
@@ -32,7 +31,7 @@ column-inside size m n start a k (h, f) e =
 pub values_before : (size m n start a k : ℕ) → (a < 32) × Fitting size (table_with m n start) → k ≡ ones_below m a → k * n ≤ 32768
 values_before size m n start a k (h, f) e =
     let fewer : k ≤ 8 = omega (arith, ones_few m a (omega arith), f.few) in
-    values_few k n (le-ltb 8 k fewer) f.low
+    values_few k n fewer f.low
 
 pub column-place : (m n start a k : ℕ) → k ≡ ones_below m a → start + 4 * (k * n) ≡ column_start (table_with m n start) a
 unfolding column_start

@@ -3,12 +3,14 @@ use mathlib.Core.Path.{◌≡◌, refl, sym, ap, ◌∙◌}
 use mathlib.Core.Bool.{Bool, true, false}
 use mathlib.Core.List.{List, [], ◌∷◌, ◌++◌}
 use Prim.Native.Nat.{ℕ, zero, suc, ◌+◌, ◌-◌, ◌*◌, ◌/◌, ◌%◌, ◌^◌, ◌≤◌, ◌<◌}
-use native.Mathlib.Nat.{mul_comm, mul_assoc, pow-suc, div-one, div-div-eq-div-mul}
+use native.Mathlib.Nat.{add_comm, mul_comm, mul_assoc, pow-suc, div-one, div-div-eq-div-mul}
 use native.Mathlib.Omega.{arith}
-use lib.ListN.{length, get_or, length-append}
+use lib.ListN.{length, get_or}
 use lib.Dec.{eqb, lit<}
 use borrow.Author.Tests.{eq-eqb, ne_eqb}
-use lib.Pow.{shl_exact, pow_mono}
+use lib.Pow.{shl_exact}
+use lib.Bits.{bit_or}
+use Rattle.std.proofs.lemmas.Nat.{or_comm, or_shifted}
 use Rattle.semantics.specs.Files.{Table, bit, has_bit, copy_bytes, copy_start}
 use Rattle.semantics.specs.Shapes.{no_table}
 use Rattle.theory.specs.Elements.{Each, one_if}
@@ -29,20 +31,18 @@ bits-add (u ∷ ts) t = omega (arith, bits-add ts t, twice (one_if t.counted) (l
     twice : (x n : ℕ) → x * 2 ^ suc n ≡ 2 * (x * 2 ^ n)
     twice x n = ap (λ p. x * p) (pow-suc 2 n) ∙ sym (mul_assoc x (2 ^ n) 2) ∙ mul_comm (x * 2 ^ n) 2
 
-pub bits_more : (ts : List Table) (t : Table) → length ts < 16 → counted_bits ts + (one_if t.counted * 2 ^ length ts) % 18446744073709551616 ≡ counted_bits (ts ++ (t ∷ []))
-bits_more ts t h = ap (λ n. counted_bits ts + n) (shl_exact {a = one_if t.counted} 1 (length ts) 64 (one-low t.counted) (omega arith)) ∙ bits-add ts t
-
 bits-low : (ts : List Table) → counted_bits ts < 2 ^ length ts
 bits-low [] = lit< tt
 bits-low (t ∷ ts) = omega (arith, bits-low ts, one-low t.counted, pow-suc 2 (length ts))
 
-pub bits_small : (ts : List Table) (t : Table) → length ts < 16 → counted_bits ts + (one_if t.counted * 2 ^ length ts) % 18446744073709551616 < 18446744073709551616
-bits_small ts t h =
-    let n : length (ts ++ (t ∷ [])) ≤ 16 = simp length-append (omega arith) in
-    omega (arith, bits_more ts t h, bits-low (ts ++ (t ∷ [])), low n)
-  where
-    low : {n : ℕ} → n ≤ 16 → 2 ^ n ≤ 65536
-    low h = pow_mono h
+-- as the code sets it
+pub bits_more : (ts : List Table) (t : Table) → length ts < 16 → bit_or (counted_bits ts) ((one_if t.counted * 2 ^ length ts) % 18446744073709551616) ≡ counted_bits (ts ++ (t ∷ []))
+bits_more ts t h =
+    ap (bit_or (counted_bits ts)) (shl_exact {a = one_if t.counted} 1 (length ts) 64 (one-low t.counted) (omega arith))
+    ∙ or_comm (counted_bits ts) (one_if t.counted * 2 ^ length ts)
+    ∙ or_shifted (one_if t.counted) (length ts) (counted_bits ts) (bits-low ts)
+    ∙ add_comm (one_if t.counted * 2 ^ length ts) (counted_bits ts)
+    ∙ bits-add ts t
 
 -- ---- the bit of table t
 bit_first : (b : Bool) (m : ℕ) → has_bit (one_if b + 2 * m) 0 ≡ b

@@ -7,7 +7,8 @@ use lib.ListN.{length, drop, get_or, length-drop}
 use lib.Seq.{get_or-drop}
 use borrow.Author.Tests.{lt-ltb, le-ltb}
 use Rattle.semantics.specs.Files.{fault, plan_bytes, plan_record}
-use Rattle.tables.specs.declared.End.TheVariants as end
+use Rattle.std.proofs.Common.{Ok, Err}
+use Rattle.refusals.specs.Refusals.{refusal_of}
 use Rattle.tables.specs.Catalogs.{end_of}
 
 -- ---- over the bytes from the record's mark on
@@ -33,20 +34,20 @@ exact o l a b =
 
 -- ---- over the file, whose byte after the mark is n
 module _ (file : List ℕ) (at : ℕ) where
-  pub plan-short : length file - at < 3 → end.Fault 1 at ≡ end_of (length file) (plan_record at (drop at file))
+  pub plan-short : length file - at < 3 → Err (refusal_of 1 at) ≡ end_of (length file) (plan_record at (drop at file))
   plan-short a = rw (short at (drop at file) (rw length-drop a))
 
   module _ (n : ℕ) (byte : n ≡ get_or file (at + 2) 0) where
     count : get_or (drop at file) 2 0 ≡ n
     count = get_or-drop at file 2 0 ∙ sym byte
 
-    pub plan-cut : 3 ≤ length file - at → length file - at < 3 + n → end.Fault 1 at ≡ end_of (length file) (plan_record at (drop at file))
+    pub plan-cut : 3 ≤ length file - at → length file - at < 3 + n → Err (refusal_of 1 at) ≡ end_of (length file) (plan_record at (drop at file))
     plan-cut a b = rw (cut at (drop at file) (rw length-drop a) (rw (length-drop, count) b))
 
-    pub plan_over : 3 ≤ length file - at → 3 + n < length file - at → end.Fault 6 (at + (3 + n)) ≡ end_of (length file) (plan_record at (drop at file))
+    pub plan_over : 3 ≤ length file - at → 3 + n < length file - at → Err (refusal_of 6 (at + (3 + n))) ≡ end_of (length file) (plan_record at (drop at file))
     plan_over a b = rw (over at (drop at file) (rw length-drop a) (rw (length-drop, count) b), count)
 
-    pub plan_exact : at + 2 ≤ length file → 3 + n ≤ length file - at → length file - at ≤ 3 + n → end.Plan (at + 3) ≡ end_of (length file) (plan_record at (drop at file))
+    pub plan_exact : at + 2 ≤ length file → 3 + n ≤ length file - at → length file - at ≤ 3 + n → Ok (at + 3) ≡ end_of (length file) (plan_record at (drop at file))
     plan_exact h a b =
         let e : at + 3 ≡ length file - length (drop 3 (drop at file)) = simp length-drop (omega arith) in
-        rw (exact at (drop at file) (rw (length-drop, count) a) (rw (length-drop, count) b)) (ap end.Plan e)
+        rw (exact at (drop at file) (rw (length-drop, count) a) (rw (length-drop, count) b)) (ap Ok e)

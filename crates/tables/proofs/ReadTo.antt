@@ -1,19 +1,20 @@
 -- What the loop of `read` keeps: the catalog holds the tables passed, and the reading from the offset on is the whole reading.
-use mathlib.Core.Path.{◌≡◌, refl, ap, ◌∙◌}
+use mathlib.Core.Path.{◌≡◌, refl, sym, ap, ◌∙◌}
 use mathlib.Core.List.{List, [], ◌∷◌, ◌++◌}
-use Prim.Native.Nat.{ℕ, suc, ◌+◌, ◌-◌, ◌*◌, ◌%◌, ◌^◌, ◌≤◌, ◌<◌}
+use Prim.Native.Nat.{ℕ, suc, ◌+◌, ◌-◌, ◌≤◌, ◌<◌}
 use native.Mathlib.Omega.{arith}
-use lib.ListN.{length, drop, replicate, length-append, length-drop}
+use lib.ListN.{length, drop, length-append, length-drop}
 use lib.Seq.{drop-drop}
+use Rattle.std.proofs.Common.{Result, Ok, Err}
 use Rattle.semantics.specs.Files.{Table, read_from, read}
 use Rattle.theory.proofs.Reading.{WholeRecord}
+use Rattle.refusals.specs.declared.Refusal.{Refusal}
 use Rattle.tables.specs.declared.Catalog.{Catalog}
-use Rattle.tables.specs.declared.End.{End}
+use Rattle.tables.specs.declared.Entry.{Entry}
 use Rattle.tables.specs.declared.Record.{Record}
 use Rattle.tables.specs.declared.Record.TheVariants as kind
-use Rattle.theory.specs.Elements.{one_if}
-use Rattle.tables.specs.Catalogs.{catalog_of, end_of, record_of, contents_of}
-use Rattle.tables.proofs.Catalogs.{catalog-empty, catalog-count, with_table, catalog_more, catalog_small}
+use Rattle.tables.specs.Catalogs.{catalog_of, entry_of, end_of, found, record_of, contents_of}
+use Rattle.tables.proofs.Catalogs.{catalog-count}
 use Rattle.tables.proofs.Steps.{Step, ends, goes_on, step}
 
 pub record ReadTo (file : List ℕ) (at : ℕ) (catalog : Catalog) : Type 0 where
@@ -23,74 +24,92 @@ pub record ReadTo (file : List ℕ) (at : ℕ) (catalog : Catalog) : Type 0 wher
   pub is : catalog ≡ catalog_of ts
   pub ahead : read file ≡ read_from (16 - length ts) at (drop at file) ts
 
-pub begun : (file : List ℕ) → ReadTo file 0 (record { count = 0; masks = replicate 16 0; rows = replicate 16 0; starts = replicate 16 0; counted = 0 })
+pub begun : (file : List ℕ) (c : Catalog) → c ≡ catalog_of [] → ReadTo file 0 c
 unfolding read
-begun file = record { within = omega arith; ts = []; few = omega arith; is = catalog-empty; ahead = refl }
+begun file c e = record { within = omega arith; ts = []; few = omega arith; is = e; ahead = refl }
+
+-- c is the catalog with one table more
+abbrev Entered : Catalog → Entry → Catalog → Type 0
+Entered catalog entry c = (ts : List Table) (t : Table) → catalog ≡ catalog_of ts → entry ≡ entry_of t entry.size → c ≡ catalog_of (ts ++ (t ∷ []))
 
 -- what a table taken at the offset gives
-pub record Taken (file : List ℕ) (at : ℕ) (catalog : Catalog) (m n start counted size : ℕ) : Type 0 where
+pub record Taken (file : List ℕ) (at : ℕ) (catalog : Catalog) (entry : Entry) : Type 0 where
   pub room : catalog.count < 16
-  pub long : 10 ≤ size
-  pub inside : at + size ≤ length file
-  pub small : catalog.counted + (counted * 2 ^ catalog.count) % 18446744073709551616 < 18446744073709551616
-  pub again : ReadTo file (at + size) (with_table catalog m n start counted)
+  pub long : 10 ≤ entry.size
+  pub inside : at + entry.size ≤ length file
+  pub again : (c : Catalog) → Entered catalog entry c → ReadTo file (at + entry.size) c
+
+-- ---- which record was found
+plan_found : (r : Result ℕ Refusal) (start : ℕ) → Ok (kind.Plan start) ≡ found kind.Plan r → r ≡ Ok start
+plan_found (Ok x) start e = cc
+plan_found (Err x) start e = cc
+
+refusal-found : (r : Result ℕ Refusal) (f : Refusal) → Err f ≡ found kind.Plan r → r ≡ Err f
+refusal-found (Ok x) f e = cc
+refusal-found (Err x) f e = cc
+
+no-table : (r : Result ℕ Refusal) (entry : Entry) → Ok (kind.Table entry) ≡ found kind.Plan r → ⊥
+no-table (Ok x) entry e = cc
+no-table (Err x) entry e = cc
 
 module _ (file : List ℕ) (at : ℕ) (catalog : Catalog) (r : ReadTo file at catalog) where
   count_is : catalog.count ≡ length r.ts
   count_is = ap (λ c. c.count) r.is ∙ catalog-count r.ts
 
-  one_more : (t : Table) (size j : ℕ) → 16 - length r.ts ≡ suc j → WholeRecord at (length (drop at file)) t size
-      → read_from (16 - length r.ts) at (drop at file) r.ts ≡ read_from j (at + size) (drop size (drop at file)) (r.ts ++ (t ∷ []))
-      → Taken file at catalog t.mask t.rows t.start (one_if t.counted) size
-  one_more t size j more w on =
+  one_more : (t : Table) (entry : Entry) (j : ℕ) → entry ≡ entry_of t entry.size → 16 - length r.ts ≡ suc j → WholeRecord at (length (drop at file)) t entry.size
+      → read_from (16 - length r.ts) at (drop at file) r.ts ≡ read_from j (at + entry.size) (drop entry.size (drop at file)) (r.ts ++ (t ∷ []))
+      → Taken file at catalog entry
+  one_more t entry j e more w on =
       let few : length r.ts < 16 = omega arith in
-      let inside : at + size ≤ length file = omega (arith, w.there, length-drop at file, r.within) in
+      let inside : at + entry.size ≤ length file = omega (arith, w.there, length-drop at file, r.within) in
       let left : j ≡ 16 - length (r.ts ++ (t ∷ [])) = simp length-append (omega arith) in
       record {
         room = omega (arith, count_is);
         long = omega (arith, w.takes);
         inside = inside;
-        small = rw r.is (catalog_small r.ts t few);
-        again = record {
+        again = λ c entered. record {
           within = inside;
           ts = r.ts ++ (t ∷ []);
           few = simp length-append (omega arith);
-          is = rw r.is (catalog_more r.ts t few);
-          ahead = r.ahead ∙ on ∙ rw (left, drop-drop size at file);
+          is = entered r.ts t r.is e;
+          ahead = r.ahead ∙ on ∙ rw (left, drop-drop entry.size at file);
         };
       }
 
   -- k is the record at the offset
-  module _ (k : Record) (next : k ≡ record_of catalog.count (length file) at (drop at file)) where
+  module _ (k : Result Record Refusal) (next : k ≡ record_of catalog.count (length file) at (drop at file)) where
     now : Step (16 - length r.ts) (length file) at (drop at file) r.ts
     now = step (16 - length r.ts) (length file) at (drop at file) r.ts (omega (arith, r.few))
 
     of-ts : k ≡ record_of (length r.ts) (length file) at (drop at file)
     of-ts = next ∙ ap (λ c. record_of c (length file) at (drop at file)) count_is
 
-    pub at_last : (e : End) → k ≡ kind.Last e → record { catalog = catalog; end = e } ≡ contents_of file
+    pub at_plan : (start : ℕ) → k ≡ Ok (kind.Plan start) → record { catalog = catalog; end = Ok start } ≡ contents_of file
     unfolding contents_of
-    at_last e last =
+    at_plan start plan =
         elim now [
-          | ends g is on ↦
-              let f : e ≡ end_of (length file) g = cc of-ts in
-              rw (r.ahead, on, r.is, f)
+          | ends g is on ↦ rw (r.ahead, on, r.is, plan_found (end_of (length file) g) start (sym plan ∙ of-ts ∙ is))
           | goes_on t size j more w is on ↦
               let z : ◌≡◌ {A = ℕ} 0 1 = cc of-ts in
               absurd (omega arith)
         ]
 
-    pub at_table : (m n start counted size : ℕ) → k ≡ kind.Table m n start counted size → Taken file at catalog m n start counted size
-    at_table m n start counted size table =
+    pub at-refusal : (f : Refusal) → k ≡ Err f → record { catalog = catalog; end = Err f } ≡ contents_of file
+    unfolding contents_of
+    at-refusal f refused =
         elim now [
-          | ends g is on ↦
+          | ends g is on ↦ rw (r.ahead, on, r.is, refusal-found (end_of (length file) g) f (sym refused ∙ of-ts ∙ is))
+          | goes_on t size j more w is on ↦
               let z : ◌≡◌ {A = ℕ} 0 1 = cc of-ts in
               absurd (omega arith)
+        ]
+
+    pub at_table : (entry : Entry) → k ≡ Ok (kind.Table entry) → Taken file at catalog entry
+    at_table entry table =
+        elim now [
+          | ends g is on ↦ absurd (no-table (end_of (length file) g) entry (sym table ∙ of-ts ∙ is))
           | goes_on t s j more w is on ↦
-              let a : m ≡ t.mask = cc of-ts in
-              let b : n ≡ t.rows = cc of-ts in
-              let c : size ≡ s = cc of-ts in
-              let d : start ≡ t.start = cc of-ts in
-              let e : counted ≡ one_if t.counted = cc of-ts in
-              rw (a, b, c, d, e) (one_more t s j more w on)
+              let e : entry ≡ entry_of t s = cc of-ts in
+              let size : s ≡ entry.size = ap (λ e. e.size) (sym e) in
+              one_more t entry j (e ∙ ap (entry_of t) size) more (rw (← size) w) (rw (← size) on)
         ]

@@ -1,12 +1,13 @@
 -- The attributes of several masks together, and their number in a file.
-use Prim.Native.Nat.{ℕ, ◌+◌, ◌<◌, ◌≤◌}
+use Prim.Native.Nat.{ℕ, ◌<◌, ◌≤◌}
 use mathlib.Core.Path.{◌≡◌, refl, sym, ap, ◌∙◌}
-use mathlib.Core.Bool.{true, ◌||◌}
+use mathlib.Core.Bool.{true, ◌||◌, or-false, or_assoc}
 use mathlib.Core.List.{List, [], ◌∷◌, map}
 use native.Mathlib.Omega.{arith}
-use lib.ListN.{length, take, get_or, length-append, length-map}
+use lib.ListN.{length, take, length-map}
 use lib.Bits.{bit_or}
 use lib.Seq.{take_at}
+use Rattle.std.specs.List.{fold}
 use Rattle.theory.specs.Elements.{Each}
 use Rattle.theory.specs.Rules.{Fitting}
 use Rattle.semantics.specs.Lists.{any, filter}
@@ -15,19 +16,17 @@ use Rattle.semantics.specs.Shapes.{attributes, width}
 use Rattle.theory.proofs.Lists.{each, Each-map, filter_passes, filter-fewer, filter_each, any-map}
 use Rattle.theory.proofs.Reading.{tables_few}
 use Rattle.words.specs.Arrays.{padded}
-use Rattle.words.proofs.Arrays.{take_last}
-use Rattle.words.proofs.Masks.{no-attribute, union_more, arity-count}
+use Rattle.words.proofs.Masks.{no-attribute, has_bit_or, arity-count}
 use Rattle.tables.specs.declared.Contents.{Contents}
 use Rattle.tables.specs.Catalogs.{catalog_of, contents_of, file_width, AttributesTogether}
 
-pub none_yet : (masks : List ℕ) → AttributesTogether masks 0 0
-none_yet masks a = no-attribute a
+-- masks put together one after the other have the attributes of each, and those of the mask before them
+together : (masks : List ℕ) (m a : ℕ) → has_bit (fold bit_or m masks) a ≡ (has_bit m a || any (λ n. has_bit n a) masks)
+together [] m a = sym (or-false (has_bit m a))
+together (n ∷ masks) m a = together masks (bit_or m n) a ∙ ap (λ b. b || any (λ n. has_bit n a) masks) (has_bit_or m n a) ∙ or_assoc (has_bit m a) (has_bit n a) _
 
--- one mask more
-pub one-mask_more : (masks : List ℕ) (n mask : ℕ) → n < length masks → AttributesTogether masks n mask → AttributesTogether masks (n + 1) (bit_or mask (get_or masks n 0))
-one-mask_more masks n mask h p a =
-    union_more (λ m. m) (take n masks) (get_or masks n 0) mask a (p a)
-    ∙ ap (any (λ m. has_bit m a)) (sym (take_last masks n 0 h))
+pub all-together : (masks : List ℕ) (n m : ℕ) → m ≡ fold bit_or 0 (take n masks) → AttributesTogether masks n m
+all-together masks n m e a = ap (λ m. has_bit m a) e ∙ together (take n masks) 0 a ∙ ap (λ b. b || any (λ n. has_bit n a) (take n masks)) (no-attribute a)
 
 masks_taken : (ts : List Table) → take (length ts) (padded (map (λ t. t.mask) ts)) ≡ map (λ t. t.mask) ts
 masks_taken ts = ap (λ n. take n (padded (map (λ t. t.mask) ts))) (sym (length-map ts (λ t. t.mask))) ∙ take_at (map (λ t. t.mask) ts) _ _ refl
@@ -45,9 +44,9 @@ module _ (file : List ℕ) (r : Contents) (e : r ≡ contents_of file) where
   unfolding contents_of
   catalog_is = ap (λ c. c.catalog) e
 
-  pub count_low : (r.catalog.count ≤ 16) × (r.catalog.count ≤ length r.catalog.masks)
+  pub count_low : r.catalog.count ≤ 16
   unfolding catalog_of
-  count_low = rw catalog_is (tables_few file, simp (length-append, length-map) (omega arith))
+  count_low = rw catalog_is (tables_few file)
 
   pub width_is : (mask : ℕ) → AttributesTogether r.catalog.masks r.catalog.count mask → arity mask ≡ file_width file
   unfolding catalog_of

@@ -1,17 +1,17 @@
 -- What the code gives for what `semantics` defines: the catalog of tables, the end of a reading, one record.
-use Rattle.std.specs.Prelude.{◌≡◌, Bool, true, false, List, map, ℕ, ◌-◌, length, get_or, take, leb}
+use Rattle.std.specs.Prelude.{◌≡◌, Bool, true, false, List, map, ℕ, ◌-◌, length, get_or, take, leb, Result, Ok, Err}
 use Rattle.semantics.specs.Lists.{any}
 use Rattle.semantics.specs.Files.{Table, table_with, has_bit, cut_mark, table_mark, plan_mark, other_mark, next_mark}
 use Rattle.semantics.specs.Files.{TableRecord, broken, whole}
 use Rattle.semantics.specs.Files.{next_table, Ending, fault, plan_bytes, plan_record, read}
 use Rattle.semantics.specs.Shapes.{width}
 use Rattle.words.specs.Arrays.{padded}
-use Rattle.theory.specs.Elements.{one_if}
 use Rattle.tables.specs.Copies.{counted_bits, copies_start, CopiesBefore}
+use Rattle.refusals.specs.declared.Refusal.{Refusal}
+use Rattle.refusals.specs.Refusals.{refusal_of}
 use Rattle.tables.specs.declared.Catalog.{Catalog}
 use Rattle.tables.specs.declared.Contents.{Contents}
-use Rattle.tables.specs.declared.End.{End}
-use Rattle.tables.specs.declared.End.TheVariants as end
+use Rattle.tables.specs.declared.Entry.{Entry}
 use Rattle.tables.specs.declared.Record.{Record}
 use Rattle.tables.specs.declared.Record.TheVariants as kind
 
@@ -25,27 +25,36 @@ catalog_of ts =
       counted = counted_bits ts;
     }
 
--- the plan's bytes are the last ones of a file of that many bytes
-abbrev pub end_of : ℕ → Ending → End
-end_of size (fault n d) = end.Fault n d
-end_of size (plan_bytes code) = end.Plan (size - length code)
+-- what a catalog enters of a table, and the bytes of its record
+abbrev pub entry_of : Table → ℕ → Entry
+entry_of t size = record { mask = t.mask; rows = t.rows; start = t.start; counted = t.counted; size = size }
 
-abbrev pub table_of : ℕ → TableRecord → Record
-table_of o (broken n) = kind.Last (end.Fault n o)
-table_of o (whole t size) = kind.Table t.mask t.rows t.start (one_if t.counted) size
+-- the plan's bytes are the last ones of a file of that many bytes
+abbrev pub end_of : ℕ → Ending → Result ℕ Refusal
+end_of size (fault n d) = Err (refusal_of n d)
+end_of size (plan_bytes code) = Ok (size - length code)
+
+abbrev pub table_of : ℕ → TableRecord → Result Entry Refusal
+table_of o (broken n) = Err (refusal_of n o)
+table_of o (whole t size) = Ok (entry_of t size)
+
+-- a record of that kind, or the refusal
+abbrev pub found : {A : Type 0} → (A → Record) → Result A Refusal → Result Record Refusal
+found kind (Ok x) = Ok (kind x)
+found kind (Err e) = Err e
 
 -- the table record at offset o, where the bytes l stand and n tables came before: 5, then the record's own rules
-unfoldable pub limited_table : ℕ → Bool → ℕ → List ℕ → Record
-limited_table n counted o l = elim (leb 16 n) [ true ↦ kind.Last (end.Fault 5 o) | false ↦ table_of o (next_table counted o l) ]
+unfoldable pub limited_table : ℕ → Bool → ℕ → List ℕ → Result Entry Refusal
+limited_table n counted o l = elim (leb 16 n) [ true ↦ Err (refusal_of 5 o) | false ↦ table_of o (next_table counted o l) ]
 
 -- the record at offset o of a file of that many bytes, where the bytes l stand and n tables came before
-unfoldable pub record_of : ℕ → ℕ → ℕ → List ℕ → Record
+unfoldable pub record_of : ℕ → ℕ → ℕ → List ℕ → Result Record Refusal
 record_of n size o l =
     elim (next_mark l) [
-      | cut_mark ↦ kind.Last (end.Fault 1 o)
-      | other_mark ↦ kind.Last (end.Fault 2 o)
-      | table_mark counted ↦ limited_table n counted o l
-      | plan_mark ↦ kind.Last (end_of size (plan_record o l))
+      | cut_mark ↦ Err (refusal_of 1 o)
+      | other_mark ↦ Err (refusal_of 2 o)
+      | table_mark counted ↦ found kind.Table (limited_table n counted o l)
+      | plan_mark ↦ found kind.Plan (end_of size (plan_record o l))
     ]
 
 unfoldable pub contents_of : List ℕ → Contents

@@ -2,5 +2,4 @@ pub mod Masks
 pub mod Products
 pub mod Parts
 pub mod Arrays
-pub mod SameWords
 pub mod WordPairs

@@ -14,20 +14,14 @@ mod totals;
 pub use pairs::{Pair, from_words, lower_word, upper_word};
 pub use totals::{exact_mul, held_add, held_mul, held_mul_pair};
 
-fn wide(x: u8) -> u32
-    ensures { (result ≡ x) × (result < 256) }
-{
-    x as u32
-}
-
 // A byte as an index.
 pub fn index(x: u8) -> usize
     ensures { (result ≡ x) × (result < 256) }
 {
-    x as usize
+    usize::from(x)
 }
 
-// A word as an index.
+// A word as an index (by `as`: Rust has no `From<u32>` for `usize`).
 pub fn word_index(word: u32) -> usize
     ensures { (result ≡ word) × (result < 4294967296) }
 {
@@ -39,7 +33,7 @@ pub fn word(s: &[u8], at: usize) -> u32
     requires { at + 4 ≤ length s.now }
     ensures { result ≡ word_at s.now at }
 {
-    wide(s[at]) + 256 * wide(s[at + 1]) + 65536 * wide(s[at + 2]) + 16777216 * wide(s[at + 3])
+    u32::from_le_bytes([s[at], s[at + 1], s[at + 2], s[at + 3]])
 }
 
 // Whether a table with this mask has the attribute.
@@ -55,14 +49,14 @@ pub fn ones_below(mask: u32, bit: u32) -> u32
     requires { bit < 32 }
     ensures { result ≡ ones_below mask bit }
 {
-    u32::count_ones(mask % (1 << bit))
+    (mask % (1 << bit)).count_ones()
 }
 
 // The ones of the mask: the number of attributes.
 pub fn ones(mask: u32) -> u32
     ensures { result ≡ arity mask }
 {
-    u32::count_ones(mask)
+    mask.count_ones()
 }
 
 // Zeroes the first n words.
@@ -70,34 +64,19 @@ pub fn clear_first(words: &mut [u32], n: usize)
     requires { n ≤ length words.old }
     ensures { words.new ≡ zeros_then n words.old }
 {
-    let mut i = 0;
-    while i < n {
-        words[i] = 0;
-        i += 1;
-    }
+    words[..n].fill(0);
 }
 
 // Zeroes all words.
 pub fn clear(words: &mut [u32])
     ensures { words.new ≡ zeros words.old }
 {
-    let n = words.len();
-    clear_first(words, n);
+    words.fill(0);
 }
 
 // Whether both have the same words, in the same places.
 pub fn same_words(a: &[u32], b: &[u32]) -> bool
     ensures { result ≡ same a.now b.now }
 {
-    if a.len() != b.len() {
-        return false;
-    }
-    let mut j = 0;
-    while j < a.len() {
-        if a[j] != b[j] {
-            return false;
-        }
-        j += 1;
-    }
-    true
+    a == b
 }

@@ -3,8 +3,8 @@ use Rattle.join.specs.Answers.{answer_of}
 use Rattle.capi.proofs.Numbers.{carried}
 use Rattle.capi.proofs.pigrozd_join.Goals as goal
 
-pub returns-in-Joined : goal.returns-in-Joined
-returns-in-Joined c = carried c.join-answer.result _ (ap answer_of (sym c.in-Joined.is)) c.join-answer.ensures
+pub returns-in-Ok : goal.returns-in-Ok
+returns-in-Ok c = carried c.join.result _ (ap answer_of (sym c.in-Ok.is)) c.join.ensures
 
-pub returns-in-Refused : goal.returns-in-Refused
-returns-in-Refused c = carried c.join-answer.result _ (ap answer_of (sym c.in-Refused.is)) c.join-answer.ensures
+pub returns-in-Err : goal.returns-in-Err
+returns-in-Err c = rw (c.from.ensures, c.number.ensures) (carried c.join.result _ (ap answer_of (sym c.in-Err.is)) c.join.ensures)

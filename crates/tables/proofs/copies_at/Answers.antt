@@ -11,5 +11,5 @@ overflow_sub-result c = omega (arith, c.requires.1 (bit-set _ _ c.if-counted-t-e
 pub returns-then-counted-t-eq1 : goal.returns-then-counted-t-eq1
 returns-then-counted-t-eq1 c = start_some _ _ _ _ (bit-set _ _ c.if-counted-t-eq1.true)
 
-pub returns : goal.returns
-returns c = start_none _ _ _ _ (bit_clear _ _ c.if-counted-t-eq1.false)
+pub returns-else-counted-t-eq1 : goal.returns-else-counted-t-eq1
+returns-else-counted-t-eq1 c = start_none _ _ _ _ (bit_clear _ _ c.if-counted-t-eq1.false)

@@ -1,34 +1,17 @@
-use mathlib.Core.Logic.{⊎_elim}
+use Prim.Native.Nat.{◌*◌}
+use mathlib.Core.Path.{refl, ◌∙◌}
 use native.Mathlib.Omega.{arith}
-use Rattle.tables.proofs.CountedTables.{out-begun, out_none, out_many, out_next, out_all}
-use borrow.Author.Tests.{lt-ltb, le-ltb}
+use borrow.Author.Rules.{rules}
+use borrow.Author.Tests.{tests}
+use Rattle.std.proofs.lemmas.Iterator.{YieldsList-from_range}
+use Rattle.std.proofs.lemmas.Iterator.Search.{all_from_yields_List}
+use Rattle.semantics.specs.Files.{word_at, copies_fit}
+use Rattle.tables.proofs.CountedTables.{all_fit}
 use Rattle.tables.proofs.copies_fit.Goals as goal
 
-pub loop-row-init : goal.loop-row-init
-loop-row-init c = (omega arith, out-begun _ _)
-
-pub overflow_mul-row : goal.overflow_mul-row
-overflow_mul-row c = omega arith
-
-pub word-copies-requires : goal.word-copies-requires
-word-copies-requires c = omega arith
-
-pub returns-then-copies-eq-NO_COPY : goal.returns-then-copies-eq-NO_COPY
-returns-then-copies-eq-NO_COPY c =
-    ⊎_elim (λ w. out_none _ _ _ c.loop-row-test.true _ c.word-copies.ensures w c.loop-row.invariant.1)
-    (λ w. out_many _ _ _ c.loop-row-test.true _ c.word-copies.ensures (lt-ltb 65535 c.word-copies.result (omega (arith, w.1))) c.loop-row.invariant.1) c.then-copies-eq-NO_COPY.either
-
-pub overflow_add-row : goal.overflow_add-row
-overflow_add-row c = omega arith
-
-pub loop-row-smaller : goal.loop-row-smaller
-loop-row-smaller c = omega arith
-
-pub loop-row-preserved : goal.loop-row-preserved
-loop-row-preserved c = (
-  omega arith,
-  out_next _ _ _ c.loop-row-test.true _ c.word-copies.ensures c.if-copies-eq-NO_COPY.false (le-ltb _ _ c.if-copies-gt-MOST_COPIES.false) c.loop-row.invariant.1,
-)
-
 pub returns : goal.returns
-returns c = out_all _ _ _ c.loop-row-test.false c.loop-row.invariant.1
+unfolding copies_fit
+returns c =
+    let n = c.args.rows in
+    all_from_yields_List (λ y. copies_fit (word_at c.args.column.now (4 * y))) _ _ _ c.all.ensures.ran (YieldsList-from_range 0 n n refl (omega arith)) (λ x b q k. search (rules, tests))
+    ∙ all_fit c.args.column.now n

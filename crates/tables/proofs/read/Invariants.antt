@@ -3,8 +3,8 @@ use lib.ListN.{length}
 use Rattle.tables.proofs.ReadTo.{ReadTo}
 use Rattle.tables.proofs.read.Given as goal
 
-abbrev pub invariant-loop-end : goal.invariant-loop-end
-invariant-loop-end l = ReadTo l.file l.at l.catalog
+abbrev pub invariant-loop-entry : goal.invariant-loop-entry
+invariant-loop-entry l = ReadTo l.file l.at l.catalog
 
-abbrev pub decreases-loop-end : goal.decreases-loop-end
-decreases-loop-end l = length l.file - l.at
+abbrev pub decreases-loop-entry : goal.decreases-loop-entry
+decreases-loop-entry l = length l.file - l.at

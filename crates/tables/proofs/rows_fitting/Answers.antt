@@ -5,4 +5,4 @@ use Rattle.tables.proofs.rows_fitting.Goals as goal
 
 pub returns : goal.returns
 unfolding output_fits
-returns c = ap (λ n. n / c.args.width) c.room.ensures
+returns c = ap (λ n. n / c.args.width) c.min.ensures

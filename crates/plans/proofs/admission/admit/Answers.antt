@@ -1,4 +1,4 @@
 use Rattle.plans.proofs.admission.admit.Goals as goal
 
 pub returns : goal.returns
-returns c = c.rule-ruling.ensures
+returns c = c.rule-verdict.ensures

@@ -1,6 +1,0 @@
-use Rattle.mending.specs.Parts.{size_at}
-use Rattle.mending.proofs.writing.+write_tree.Given as goal
-
--- the size of the subplan
-abbrev pub decreases-write_tree : goal.decreases-write_tree
-decreases-write_tree l = size_at l.ends.now l.at
