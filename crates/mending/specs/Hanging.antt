@@ -1,5 +1,6 @@
 -- What hanging in bytes promises.
 use Rattle.std.specs.Prelude.{◌≡◌, Bool, true, false, List, ◌∷◌, ◌++◌, ℕ, ◌+◌, ◌-◌, ◌<◌, ◌≤◌, length, get_or, take, drop, eqb, ltb}
+use Rattle.std.specs.Prelude.{Option, None, Some}
 use Rattle.std.specs.Int.Bits.{bit_and}
 use Rattle.semantics.specs.Lists.{any, filter, head_of}
 use Rattle.semantics.specs.Plans.{Plan, encode, tables}
@@ -18,6 +19,22 @@ held_by masks key b = elim (ltb b 16) [ true ↦ holds_key key (get_or masks b 0
 -- the holders among the tables that bytes name
 unfoldable pub candidates : List ℕ → ℕ → List ℕ → List ℕ
 candidates masks key bs = filter (λ t. holds_key key (get_or masks t 0)) (filter (λ b. ltb b 16) bs)
+
+-- the byte at k is a table that holds the key
+pub record HolderAt (masks : List ℕ) (key : ℕ) (s : List ℕ) (k : ℕ) : Type 0 where
+  pub table : get_or s k 0 < 16
+  pub holds : holds_key key (get_or masks (get_or s k 0) 0) ≡ true
+
+-- j is the first such index
+pub record FirstAt (masks : List ℕ) (key : ℕ) (s : List ℕ) (j : ℕ) : Type 0 where
+  pub early : (k : ℕ) → k < j → HolderAt masks key s k → ⊥
+  pub there : HolderAt masks key s j
+  pub within : j < length s
+
+-- the first such index, where there is one
+abbrev pub FirstHolder : List ℕ → ℕ → List ℕ → Option ℕ → Type 0
+FirstHolder masks key s None = (k : ℕ) → k < length s → HolderAt masks key s k → ⊥
+FirstHolder masks key s (Some j) = FirstAt masks key s j
 
 -- the FFs right before index j begin at i
 pub record RunStart (s : List ℕ) (j i : ℕ) : Type 0 where

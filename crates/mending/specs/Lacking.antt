@@ -1,11 +1,14 @@
 -- What the search for answer 9 promises.
-use Rattle.std.specs.Prelude.{◌≡◌, Bool, List, ℕ, ◌+◌, ◌≤◌, length, Option, None, Some}
+use Rattle.std.specs.Prelude.{◌≡◌, Bool, List, ℕ, ◌+◌, ◌≤◌, length, get_or, Option, None, Some}
 use Rattle.std.proofs.Math.Option.{none, some}
 use Rattle.std.proofs.Math.Option as math
-use Rattle.semantics.specs.Plans.{Plan}
+use Rattle.semantics.specs.Lists.{any}
+use Rattle.semantics.specs.Plans.{Plan, tables}
 use Rattle.semantics.specs.Mending.{both_hold, unmendable}
 use Rattle.mending.specs.Places.{PlanAt, Planned}
 use Rattle.mending.specs.Parts.{shape_in, Surveyed}
+use Rattle.mending.specs.Hanging.{holds_key}
+use Rattle.mending.specs.declared.parts.Side.{Side}
 use Rattle.mending.specs.declared.parts.Survey.{Survey}
 
 -- an index, where there is one, as the code says it
@@ -16,6 +19,11 @@ found_of (some i) = Some i
 -- what the search asks: a plan begins at the index, of a short plan that is surveyed
 abbrev pub LackAsked : Survey → ℕ → Type 0
 LackAsked v at = (length v.code.now ≤ 31) × Surveyed v.code.now v.masks.now v.parts × Planned v.code.now at
+
+-- whether a table of the side's plan holds its key
+abbrev pub SideHolds : List ℕ → List ℕ → Side → Bool → Type 0
+SideHolds s masks side b =
+    (p : Plan) → PlanAt s side.start p side.end → b ≡ any (λ t. holds_key side.key (get_or masks t 0)) (tables p)
 
 -- whether both sides of the join at an index have a holder; row counts do not matter
 abbrev pub BothHold : List ℕ → List ℕ → ℕ → Bool → Type 0

@@ -1,7 +1,7 @@
 // A tree hung in bytes: an FF and the hung tree's bytes are put before and behind the plan that begins with the topmost holder.
-ghost use Rattle.std.specs.Prelude.{◌≡◌, ◌≤◌, length, position};
+ghost use Rattle.std.specs.Prelude.{◌≡◌, ◌≤◌, length};
 ghost use Rattle.mending.specs.Parts.{MaskWords};
-ghost use Rattle.mending.specs.Hanging.{held_by, RunStart, Hangable, HangsAt, HangAsked, TreeHung};
+ghost use Rattle.mending.specs.Hanging.{held_by, FirstHolder, RunStart, Hangable, HangsAt, HangAsked, TreeHung};
 
 use crate::parts::{is_table, part_at};
 
@@ -14,7 +14,7 @@ pub(crate) fn holds(masks: &[u32; 16], key: u32, b: u8) -> bool
 
 // The first byte that is a table which holds the key: the topmost one of the tree that the bytes spell.
 fn first_holder(tree: &[u8], key: u32, masks: &[u32; 16]) -> Option<usize>
-    ensures { result ≡ position (held_by masks.now key) tree.now }
+    ensures { FirstHolder masks.now key tree.now result }
 {
     tree.iter().position(|b| holds(masks, key, *b))
 }
@@ -25,8 +25,11 @@ fn run_start(tree: &[u8], j: usize) -> usize
     ensures { RunStart tree.now j result }
 {
     let mut i = j;
-    while 0 < i && tree[i - 1] == 255 {
-        i -= 1;
+    while 0 < i {
+        match tree[i - 1] {
+            255 => i -= 1,
+            _ => return i,
+        }
     }
     i
 }

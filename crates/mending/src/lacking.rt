@@ -1,21 +1,27 @@
 // Answer 9: a join has a side where no table holds its join attributes.
-ghost use Rattle.std.specs.Prelude.{◌≡◌, ◌≤◌, length, slice_range};
+ghost use Rattle.std.specs.Prelude.{◌≡◌, ◌≤◌, length};
 ghost use Rattle.std.specs.List.{list_any};
 ghost use Rattle.mending.specs.Parts.{JoinAsked};
 ghost use Rattle.mending.specs.Hanging.{held_by};
-ghost use Rattle.mending.specs.Lacking.{LackAsked, BothHold, FirstLack};
+ghost use Rattle.mending.specs.Lacking.{LackAsked, SideHolds, BothHold, FirstLack};
 
 use crate::hanging::holds;
 use crate::parts::{Hand, Side, Survey, is_table};
+
+// Whether one of the bytes is a table that holds the key.
+fn any_holds(bytes: &[u8], key: u32, masks: &[u32; 16]) -> bool
+    ensures { result ≡ list_any (held_by masks.now key) bytes.now }
+{
+    bytes.iter().any(|b| holds(masks, key, *b))
+}
 
 impl Survey<'_> {
     // Whether a table of the side holds the join attributes.
     fn side_holds(&self, side: Side) -> bool
         requires { (side.start ≤ side.end) × (side.end ≤ length self.now.code.now) }
-        ensures { result ≡ list_any (held_by self.now.masks.now side.key) (slice_range self.now.code.now side.start side.end) }
+        ensures { SideHolds self.now.code.now self.now.masks.now side result }
     {
-        let bytes = &self.code[side.start..side.end];
-        bytes.iter().any(|b| holds(self.masks, side.key, *b))
+        any_holds(&self.code[side.start..side.end], side.key, self.masks)
     }
 
     // Whether both sides of the join at an index have such a table.

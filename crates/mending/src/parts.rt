@@ -8,7 +8,10 @@ ghost use Rattle.mending.specs.Parts.{MaskWords, Parted, Surveyed, Spanned, Join
 pub(crate) fn is_table(b: u8) -> bool
     ensures { result ≡ ltb b 16 }
 {
-    b < 16
+    match b {
+        0..=15 => true,
+        _ => false,
+    }
 }
 
 // A plan inside the plan: the attributes of its tables, and the index behind it.

@@ -38,9 +38,9 @@ fn asks_for_plan(code: &[u8], count: usize) -> bool
 }
 
 // Answers 7 and 8, in this order, for the plan's bytes and the tables of a file; else which plan is followed.
-fn check_plan(code: &[u8], catalog: Catalog) -> Result<Followed, Refusal>
-    requires { Catalogued catalog }
-    ensures { (ts : List Table) → Tabled catalog ts → result ≡ check_of ts code.now }
+fn check_plan(code: &[u8], catalog: &Catalog) -> Result<Followed, Refusal>
+    requires { Catalogued catalog.now }
+    ensures { (ts : List Table) → Tabled catalog.now ts → result ≡ check_of ts code.now }
 {
     let count = catalog.count;
     if asks_for_plan(code, count) {
@@ -58,12 +58,12 @@ fn check_plan(code: &[u8], catalog: Catalog) -> Result<Followed, Refusal>
 // The schedule of the plan that the join follows, or 10 where the scratch has too few words. Nothing is scheduled before, and after 10.
 fn with_scratch(
     code: &[u8],
-    catalog: Catalog,
+    catalog: &Catalog,
     words: usize,
     schedule: &mut Schedule,
 ) -> Result<(), Refusal>
-    requires { Accepted code.now catalog × (schedule.old ≡ no_schedule) }
-    ensures { FollowedBy catalog code.now words result schedule.new }
+    requires { Accepted code.now catalog.now × (schedule.old ≡ no_schedule) }
+    ensures { FollowedBy catalog.now code.now words result schedule.new }
 {
     schedule_of(code, &catalog.masks, &catalog.rows, &mut *schedule);
     let first = schedule.order[0];
@@ -81,12 +81,12 @@ fn with_scratch(
 // Answers 9, 10 and 14 for a plan that is formed: the formed one is followed.
 fn with_formed(
     code: &[u8],
-    catalog: Catalog,
+    catalog: &Catalog,
     words: usize,
     schedule: &mut Schedule,
 ) -> Result<(), Refusal>
-    requires { FormableFor code.now catalog × (schedule.old ≡ no_schedule) }
-    ensures { FormedBy catalog code.now words result schedule.new }
+    requires { FormableFor code.now catalog.now × (schedule.old ≡ no_schedule) }
+    ensures { FormedBy catalog.now code.now words result schedule.new }
 {
     let mut bytes = [0u8; 31];
     let n = formed_plan(code, catalog, &mut bytes)?;
@@ -96,12 +96,12 @@ fn with_formed(
 // Answers 7 to 10 and 14 for the plan's bytes and the tables of a file.
 fn admit_plan(
     code: &[u8],
-    catalog: Catalog,
+    catalog: &Catalog,
     words: usize,
     schedule: &mut Schedule,
 ) -> Result<(), Refusal>
-    requires { Catalogued catalog × (schedule.old ≡ no_schedule) }
-    ensures { RuledBy catalog code.now words result schedule.new }
+    requires { Catalogued catalog.now × (schedule.old ≡ no_schedule) }
+    ensures { RuledBy catalog.now code.now words result schedule.new }
 {
     match check_plan(code, catalog)? {
         Followed::AsSent => with_scratch(code, catalog, words, schedule),
@@ -112,15 +112,15 @@ fn admit_plan(
 // Answers 1 to 10, 14 and 19 for a file that is read.
 fn rule(
     file: &[u8],
-    contents: Contents,
+    contents: &Contents,
     words: usize,
     schedule: &mut Schedule,
 ) -> Result<(), Refusal>
-    requires { (contents ≡ contents_of file.now) × (schedule.old ≡ no_schedule) }
-    ensures { decided_in result contents.catalog schedule.new ≡ decided_of file.now words }
+    requires { (contents.now ≡ contents_of file.now) × (schedule.old ≡ no_schedule) }
+    ensures { decided_in result contents.now.catalog schedule.new ≡ decided_of file.now words }
 {
     let at = contents.end?;
-    admit_plan(&file[at..], contents.catalog, words, schedule)
+    admit_plan(&file[at..], &contents.catalog, words, schedule)
 }
 
 // Answers 1 to 10, 14 and 19 for a file and a scratch of that many words, or the catalog and the schedule. Nothing is
@@ -130,7 +130,9 @@ pub fn admit(file: &[u8], words: usize, schedule: &mut Schedule) -> Admission
     ensures { decided_in result.verdict result.catalog schedule.new ≡ decided_of file.now words }
 {
     let contents = tables::read(file);
-    let catalog = contents.catalog;
-    let verdict = rule(file, contents, words, schedule);
-    Admission { verdict, catalog }
+    let verdict = rule(file, &contents, words, schedule);
+    Admission {
+        verdict,
+        catalog: contents.catalog,
+    }
 }

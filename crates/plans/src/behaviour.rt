@@ -39,20 +39,22 @@ fn judge(code: &[u8], masks: &[u32; 16], at: usize) -> Option<Subplan>
     requires { Planned code.now at }
     ensures { (p : Plan) (e : ℕ) → PlanAt code.now at p e → Judged masks.now p e result }
 {
-    match code[at] {
-        255 => {
-            let left = judge(code, masks, at + 1)?;
-            let right = judge(code, masks, left.next)?;
-            left.join(right, masks)
-        }
-        table => {
-            let t = usize::from(table);
+    let b = code[at];
+    match b {
+        0..=15 => {
+            let t = usize::from(b);
             Some(Subplan {
                 attributes: masks[t],
                 leftmost: t,
                 next: at + 1,
             })
         }
+        255 => {
+            let left = judge(code, masks, at + 1)?;
+            let right = judge(code, masks, left.next)?;
+            left.join(right, masks)
+        }
+        _ => None,
     }
 }
 

@@ -7,18 +7,19 @@ use refusals::Refusal;
 use tables::Catalog;
 
 // The plan sent, mended, or 9.
-fn mended_plan(code: &[u8], catalog: Catalog, out: &mut [u8; 31]) -> Result<usize, Refusal>
-    requires { NamedFor code.now catalog }
-    ensures { MendedFor catalog code.now result out.new }
+fn mended_plan(code: &[u8], catalog: &Catalog, out: &mut [u8; 31]) -> Result<usize, Refusal>
+    requires { NamedFor code.now catalog.now }
+    ensures { MendedFor catalog.now code.now result out.new }
 {
     mending::mend(code, &catalog.masks, &catalog.rows, out)?;
     Ok(code.len())
 }
 
 // The plan found for tables without one, or 14.
-fn found_plan(catalog: Catalog, out: &mut [u8; 31]) -> Result<usize, Refusal>
-    requires { PlanlessFor catalog }
-    ensures { FoundFor catalog result out.new }
+#[tactic(auto, using(crate::proofs::Formed::found_formed))]
+fn found_plan(catalog: &Catalog, out: &mut [u8; 31]) -> Result<usize, Refusal>
+    requires { PlanlessFor catalog.now }
+    ensures { FoundFor catalog.now result out.new }
 {
     elimination::find_plan(&catalog.masks, catalog.count, out)
 }
@@ -26,11 +27,11 @@ fn found_plan(catalog: Catalog, out: &mut [u8; 31]) -> Result<usize, Refusal>
 // Either, by whether a plan was sent.
 pub(crate) fn formed_plan(
     code: &[u8],
-    catalog: Catalog,
+    catalog: &Catalog,
     out: &mut [u8; 31],
 ) -> Result<usize, Refusal>
-    requires { FormableFor code.now catalog }
-    ensures { FormedFor catalog code.now result out.new }
+    requires { FormableFor code.now catalog.now }
+    ensures { FormedFor catalog.now code.now result out.new }
 {
     if code.is_empty() {
         found_plan(catalog, out)

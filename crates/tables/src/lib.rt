@@ -174,15 +174,22 @@ fn limited_table(file: &[u8], at: usize, count: usize, counted: bool) -> Result<
     table_record(file, at, counted)
 }
 
+// The marks that records begin with: of a table without copies, of one with copies, and of the plan.
+const TABLE_MARK: &[u8; 2] = b"TB";
+
+const COPIES_MARK: &[u8; 2] = b"TC";
+
+const PLAN_MARK: &[u8; 2] = b"PL";
+
 // The record at an offset, after that many tables: two bytes left (1), mark (2), and then the record's own rules.
 fn next_record(file: &[u8], at: usize, count: usize) -> Result<Record, Refusal>
     requires { at ≤ length file.now }
     ensures { result ≡ record_of count (length file.now) at (drop at file.now) }
 {
     match file[at..].first_chunk() {
-        Some(b"TB") => limited_table(file, at, count, false).map(Record::Table),
-        Some(b"PL") => plan_record(file, at).map(Record::Plan),
-        Some(b"TC") => limited_table(file, at, count, true).map(Record::Table),
+        Some(TABLE_MARK) => limited_table(file, at, count, false).map(Record::Table),
+        Some(PLAN_MARK) => plan_record(file, at).map(Record::Plan),
+        Some(COPIES_MARK) => limited_table(file, at, count, true).map(Record::Table),
         Some(_) => Err(refusal(Reason::NoRecord, at)),
         None => Err(refusal(Reason::CutOff, at)),
     }

@@ -19,7 +19,7 @@ returns-in_err-check_naming c = let e : c.from_residual-in_err-check_naming.resu
     rw e (answer_8 _ _ (is-sent _ _ _ c.asks_for_plan.ensures c.if-asks_for_plan.false) _ c.check_spelling.ensures c.in_ok-check_spelling.was _ c.check_naming.ensures _ c.in_err-check_naming.was)
 
 pub is_well_behaved-requires : goal.is_well_behaved-requires
-is_well_behaved-requires c = spelled-plan c.args.catalog _ (is-sent _ _ _ c.asks_for_plan.ensures c.if-asks_for_plan.false) _ c.check_spelling.ensures c.in_ok-check_spelling.was
+is_well_behaved-requires c = spelled-plan c.args.catalog.now _ (is-sent _ _ _ c.asks_for_plan.ensures c.if-asks_for_plan.false) _ c.check_spelling.ensures c.in_ok-check_spelling.was
 
 pub returns-then-is_well_behaved : goal.returns-then-is_well_behaved
 returns-then-is_well_behaved c = is-behaved _ _ (is-sent _ _ _ c.asks_for_plan.ensures c.if-asks_for_plan.false) _ c.check_spelling.ensures c.in_ok-check_spelling.was _ c.check_naming.ensures c.in_ok-check_naming.was _ c.is_well_behaved.ensures c.if-is_well_behaved.true

@@ -1,6 +1,6 @@
 use Rattle.std.proofs.Common.{◌≡◌, rules, None}
 use native.Mathlib.Omega.{arith}
-use Rattle.mending.proofs.Places.{starts, left, right, left-ends}
+use Rattle.mending.proofs.Places.{starts, no_other, left, right, left-ends}
 use Rattle.plans.proofs.Judging.{one_table, table_small, not_left, not_right, two_plans, left_index, right_index}
 use Rattle.plans.proofs.behaviour.+judge.Goals as goal
 
@@ -45,5 +45,8 @@ returns-in_ok-right-in-255 t c =
     rw c.join.ensures
     (two_plans _ _ _ c.in-255.is _ (rw c.in_ok-left-in-255.was at c.judge.ensures) _ (rw c.in_ok-right-in-255.was at c.judge-in-255.ensures))
 
+pub returns-in-0-to-15 : goal.returns-in-0-to-15
+returns-in-0-to-15 t c = one_table _ _ _ (λ q. omega arith) _ c.from-t.ensures
+
 pub returns-in_default : goal.returns-in_default
-returns-in_default t c = one_table _ _ _ (λ q. omega arith) _ c.from-t.ensures
+returns-in_default t c = absurd (no_other _ _ (λ q. omega arith) (omega arith) c.requires)
