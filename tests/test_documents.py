@@ -140,7 +140,7 @@ class Retired(unittest.TestCase):
         self.assertGreater(len(sources), 25)
         for source in sources + glob.glob(path("bench", "src", "*.rs")):
             with open(source, encoding="utf-8") as file:
-                self.assertNotRegex(file.read(), r"(refuse\(|number: *|= *)12\b", source)
+                self.assertNotRegex(file.read(), r"(Refused\(|Err\(\(|refuse\(|number: *|= *)12\b", source)
 
     def test_names(self):
         self.assertNotIn(12, pigrozd.MEANINGS)

@@ -19,7 +19,7 @@ PATTERNS = [
     ("1 numbers of answers", r"\bnumber: (0|u32|u64|number|answer)"),
     ("1 flags in structs", r"^\s*(pub )?(\w+): bool,$"),
     ("2 conversions and halves by hand", r"\bfn (wide|upper|lower|pack|unpack|no_pick|one_if|or_else|room)\("),
-    ("3 loops with a test", r"^\s*(while|loop)\b"),
+    ("3 loops with a test", r"^\s*('\w+: )?(while|loop)\b"),
     ("3 for loops", r"^\s*for\b"),
     ("3 chains and methods in place of loops",
      r"\.(any|all|position|rposition|find|filter|fold|sum|count|fill|copy_from_slice|starts_with|map)\("),
