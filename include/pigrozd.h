@@ -11,7 +11,7 @@
  * - file_bytes is at most PIGROZD_MOST_BYTES, and each number of words is at most PIGROZD_MOST_WORDS: no buffer has 2^63 bytes
  *   or more. (No memory of such a size can be had on x86-64; a length that was worked out wrong can be one.)
  * - The buffers of a call do not overlap, and nothing else writes to them during the call.
- * - 64 KB of stack are free (measured: 23 KB at most, by the slow engine for a plan of 255 bytes FF).
+ * - 64 KB of stack are free (measured: 24 KB at most, by the slow engine for a plan of 255 bytes FF).
  * Nothing is asked of what they hold. The functions call nothing but memcpy and memset and keep nothing, so that calls with
  * buffers of their own may run side by side.
  *
