@@ -8,6 +8,7 @@ use lib.ListN.{length, get_or, set, take, drop, replicate, length-append, length
 use lib.Seq.{take_all, get_or-append_seam, get_or-append-add, take_at, drop_at}
 use lib.Dec.{eqb, ltb}
 use Rattle.std.specs.Prelude.{Option, IsSome}
+use Rattle.std.specs.List.{position}
 use borrow.Rule.Slice.PartMut.{put_mid, same_len_mid}
 use Rattle.std.proofs.lemmas.Slice.{take-put_mid}
 use Rattle.std.proofs.lemmas.List.{length-take-le}
@@ -20,8 +21,8 @@ use Rattle.mending.proofs.Around.{EndsInTable, Around, around}
 use Rattle.words.proofs.Arrays.{take-set}
 use Rattle.mending.specs.Places.{PlanAt, Planned}
 use Rattle.mending.proofs.Places.{stands, plan_span}
-use Rattle.mending.specs.Hanging.{holds_key, candidates, HolderAt, FirstAt, FirstHolder, RunStart, Spells, Hangable, HangsAt, TreeHung}
-use Rattle.mending.proofs.Holders.{first_some}
+use Rattle.mending.specs.Hanging.{holds_key, held_by, candidates, HolderAt, FirstAt, FirstHolder, RunStart, Spells, Hangable, HangsAt, TreeHung}
+use Rattle.mending.proofs.Holders.{first_found, first_some}
 use Rattle.mending.proofs.Bytes.{found-names, names_small, plan_small}
 
 -- ---- the first holder
@@ -171,14 +172,18 @@ place_found {masks} {own} {key} {j} {i} e h fh rs ends =
     let b = end-inside masks own key j i h.plan h.spells fh rs e ends in
     record { from = b.0; to = b.1; hung = λ p c sp. hangs_at masks own key j i p sp fh rs e ends b.0 b.1 c }
 
--- a plan with a holder has a first one
-pub hanger_found : (masks own : List ℕ) (key : ℕ) (r : Option ℕ) → FirstHolder masks key own r → Hangable masks key own → IsSome r
-hanger_found masks own key r f h =
+-- in a plan with a holder, a search for the first one finds one
+pub hanger_some : (masks own : List ℕ) (key : ℕ) (r : Option ℕ) → FirstHolder masks key own r → Hangable masks key own → IsSome r
+hanger_some masks own key r f h =
     let p = h.plan in
     let sp = h.spells in
     let st : PlanAt own 0 p (length own) = stands p sp.small own [] [] 0 (length own) (sp.is ∙ sym (append-nil (encode p))) refl (omega (arith, ap length sp.is)) in
     let (k, a, g, h) = some_byte (λ t. holds_key key (get_or masks t 0)) (λ b. ltb b 16) own (ap (λ l. any (λ t. holds_key key (get_or masks t 0)) l) (ap (filter (λ b. ltb b 16)) sp.is ∙ names_small p (plan_small own 0 p (length own) st)) ∙ sp.holder) in
     first_some masks own key r f k a (record { table = ltb-true (get_or own k 0) 16 g; holds = h })
+
+-- a plan with a holder has a first one
+pub hanger_found : (masks own : List ℕ) (key : ℕ) → Hangable masks key own → IsSome (position (held_by masks key) own)
+hanger_found masks own key h = hanger_some masks own key (position (held_by masks key) own) (first_found masks own key (position (held_by masks key) own) refl) h
 
 -- a run of FFs is longer by one
 pub run_more : (s : List ℕ) (j i : ℕ) → ((k : ℕ) → i ≤ k → k < j → get_or s k 0 ≡ 255) → 0 < i → get_or s (i - 1) 0 ≡ 255 → (k : ℕ) → i - 1 ≤ k → k < j → get_or s k 0 ≡ 255

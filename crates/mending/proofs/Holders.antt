@@ -41,13 +41,13 @@ module _ (masks s : List ℕ) (key j : ℕ) (b : Bool) (q : b ≡ held_by masks 
   not-holder : b ≡ false → HolderAt masks key s j → ⊥
   not-holder h y = true-false (held_by masks key (get_or s j 0)) (held-table masks key (get_or s j 0) y.table ∙ y.holds) (sym q ∙ h)
 
-first_at : (masks s : List ℕ) (key j : ℕ) → position (held_by masks key) s ≡ Some j → FirstAt masks key s j
+pub first_at : (masks s : List ℕ) (key j : ℕ) → position (held_by masks key) s ≡ Some j → FirstAt masks key s j
 first_at masks s key j e =
     let (w, t, early) = position-Some (held_by masks key) s j 0 e in
     record { early = λ k h y. not-holder masks s key k false (sym (early k h)) refl y; there = is-holder masks s key j true (sym t) refl; within = w }
 
 -- a list with a holder has a first one
-holder_found : (masks s : List ℕ) (key k : ℕ) → k < length s → HolderAt masks key s k → IsSome (position (held_by masks key) s)
+pub holder_found : (masks s : List ℕ) (key k : ℕ) → k < length s → HolderAt masks key s k → IsSome (position (held_by masks key) s)
 holder_found masks s key k h y =
     cases (ltb n (length s)) (λ g. rw g)
     (λ g. let d : length s ≤ n = ltb-false n (length s) g in
