@@ -183,7 +183,7 @@ hanger_some masks own key r f h =
 
 -- a plan with a holder has a first one
 pub hanger_found : (masks own : List ℕ) (key : ℕ) → Hangable masks key own → IsSome (position (held_by masks key) own)
-hanger_found masks own key h = hanger_some masks own key (position (held_by masks key) own) (first_found masks own key (position (held_by masks key) own) refl) h
+hanger_found masks own key h = hanger_some masks own key _ (first_found masks own key _ refl) h
 
 -- a run of FFs is longer by one
 pub run_more : (s : List ℕ) (j i : ℕ) → ((k : ℕ) → i ≤ k → k < j → get_or s k 0 ≡ 255) → 0 < i → get_or s (i - 1) 0 ≡ 255 → (k : ℕ) → i - 1 ≤ k → k < j → get_or s k 0 ≡ 255

@@ -41,6 +41,7 @@ module _ (masks s : List ℕ) (key j : ℕ) (b : Bool) (q : b ≡ held_by masks 
   not-holder : b ≡ false → HolderAt masks key s j → ⊥
   not-holder h y = true-false (held_by masks key (get_or s j 0)) (held-table masks key (get_or s j 0) y.table ∙ y.holds) (sym q ∙ h)
 
+-- where a search finds one, it is the first one
 pub first_at : (masks s : List ℕ) (key j : ℕ) → position (held_by masks key) s ≡ Some j → FirstAt masks key s j
 first_at masks s key j e =
     let (w, t, early) = position-Some (held_by masks key) s j 0 e in
